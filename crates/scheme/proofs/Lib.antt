@@ -1,0 +1,4 @@
+mod Search
+mod Rows
+mod Lists
+mod Caps

@@ -1,0 +1,4 @@
+mod Pieces
+mod Scan
+mod Shapes
+pub mod Turns
