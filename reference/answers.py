@@ -14,21 +14,20 @@ from cases import A, P, SMALL, differing, scheme  # noqa: E402
 
 EXAMPLES = Path(__file__).resolve().parent.parent / "examples"
 
-# Whole reports. In T the objects are x with a = 0, y with a = 1 and one move for each pair; moves x y and y x
-# of policy p are 1 and 2. Right r is that of p.
+# In T there are x with a = 0, y with a = 1 and policy p for right r; p on x and y is move 1, on y and x move 2.
 T = b"attr a 3\nright r\nright t\nobject x 0\nobject y 1\npolicy p r\n"      # N = 5 ** 2 = 25
 NEVER = "scheme 25 4\nnever x y r 1 4\n"
 LEAK = "scheme 25 4\nleak x y r 1 2\nby p x y\n"
 Q = b"query x y r\n"
 
-# After policy p on x and y, policy u needs what p should have left; u has the right t, its moves x y is 5.
-# Found is 2 and tried 8 + 6, since only move 1 is enabled at the start.
-THEN = b"if s.a = 0\nif o.a = 1\n"
+# LATER is the report about a text in which at first p can be applied to x and y only, and then u, which is move 5:
+# found is 2, and tried is 8 + 6.
 LATER = "scheme 25 8\nleak x y t 2 14\nby p x y\nby u x y\n"
 
 
-def then(actions, after):
-    return T + THEN + actions + b"policy u t\n" + after + b"query x y t\n"
+def then(actions, predicates):
+    """Policy p with these actions, which needs the values of the start; policy u for right t, with these predicates."""
+    return T + b"if s.a = 0\nif o.a = 1\n" + actions + b"policy u t\n" + predicates + b"query x y t\n"
 
 
 ANSWER_CASES = [
@@ -62,7 +61,7 @@ ANSWER_CASES = [
     ("null fails", P + b"if s.a null\n" + Q, "scheme 16 4\nnever x y r 1 4\n"),
     ("set holds", P + b"if s.a set\n" + Q, "scheme 16 4\nleak x y r 1 2\nby p x y\n"),
     ("set fails", P + b"if o.a set\n" + Q, "scheme 16 4\nnever x y r 1 4\n"),
-    # here the other pair has one step, y x with a = 1 to 0 or x with a = 0 to 2, and no second one
+    # in this case and in "add beyond", p can be applied to y and x, once: found is 2
     ("sub is not clamped", T + b"do s.a sub 1\n" + Q, "scheme 25 4\nnever x y r 2 8\n"),
     ("sub to 0", T + b"do o.a sub 1\n" + Q, LEAK),
     ("add to the last value", T + b"do o.a add 1\n" + Q, LEAK),

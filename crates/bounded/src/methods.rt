@@ -24,12 +24,18 @@ impl<T: Copy, const N: usize> Bounded<T, N> {
         &all[0..self.len]
     }
 
+    pub fn has_room(&self) -> bool
+        ensures { λ r. ⌜ r ≡ ltb (length (items (now (self .entry)))) N ⌝ }
+    {
+        self.len < N
+    }
+
     // One item more at the end, or false where the list is full.
     pub fn push(&mut self, item: T) -> bool
         ensures room { λ r. ⌜ r ≡ ltb (length (items (now (self .entry)))) N ⌝ }
         ensures after { λ r. ⌜ items (now (self .exit)) ≡ cond r (items (now (self .entry)) ++ item ∷ []) (items (now (self .entry))) ⌝ }
     {
-        if self.len >= N {
+        if !self.has_room() {
             return false;
         }
         self.array[self.len] = item;

@@ -1,4 +1,4 @@
 mod Search
 mod Rows
-mod Lists
+pub mod Lists
 mod Caps

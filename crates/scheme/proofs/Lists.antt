@@ -2,10 +2,13 @@
 use mathlib.Core.Path.{_≡_, sym, ap, _∙_}
 use mathlib.Core.Bool.{Bool, true, false, cond}
 use mathlib.Core.List.{List, [], _∷_, _++_, map}
-use Prim.Native.Nat.{ℕ}
+use Prim.Native.Nat.{ℕ, _≤_, _<_}
+use native.Mathlib.Omega.{arith}
 use lib.Dec.{ltb}
 use lib.ListN.{length}
+use Rattle.std.specs.Options.{Cases}
 use Rattle.std.specs.declared.option.Option.{Option}
+use Rattle.std.specs.declared.option.Option.the-variants.{Some, None}
 use Rattle.std.proofs.shelf.Lanes.{map-map}
 use Rattle.std.proofs.shelf.Lists.{length-map, map-push}
 use Rattle.scheme.specs.Names.{indexOf}
@@ -26,3 +29,8 @@ module _ {X Y : Type 0} (f : X → Y) where
   -- a search by the entries' names is one by the model's names
   pub found-of : (named : Y → List ℕ) (xs : List X) (ys : List Y) (name : List ℕ) (r : Option ℕ) → map f xs ≡ ys → r ≡ indexOf name (map (λ x. named (f x)) xs) → r ≡ indexOf name (map named ys)
   found-of named xs ys name r e told = told ∙ ap (indexOf name) (sym (map-map named f xs) ∙ ap (map named) e)
+
+-- a number below a count is below any greater one
+pub below-more : (r : Option ℕ) (n most : ℕ) → n ≤ most → Cases r (Unit {0}) (λ i. i < n) → Cases r (Unit {0}) (λ i. i < most)
+below-more None n most h e = tt
+below-more (Some i) n most h e = omega arith

@@ -1,4 +1,5 @@
 mod Pieces
 mod Scan
 mod Shapes
+pub mod Lengths
 pub mod Turns

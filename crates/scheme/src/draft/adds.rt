@@ -5,8 +5,7 @@ ghost use lib.Dec.{ltb};
 ghost use mathlib.Core.List.{[], _∷_, _++_};
 ghost use lib.ListN.{length};
 ghost use Rattle.bounded.specs.Items.{items};
-ghost use Rattle.scheme.specs.Models.{attributeOf, objectOf, opened, withAttribute, withRight, withObject, withPolicies, withQuery};
-ghost use Rattle.scheme.specs.Tables.{lastHasRoom, lastFilled};
+ghost use Rattle.scheme.specs.Models.{attributeOf, objectOf, opened, withAttribute, withRight, withObject, withPolicies, withQuery, hasRoom, lastRoom, lastFilled};
 ghost use Rattle.scheme.specs.Drafts.{draftOf};
 use super::Draft;
 use crate::entries::Attribute;
@@ -47,7 +46,7 @@ impl Draft {
 
     // One clause more in the policy opened last.
     pub fn fill_policy(&mut self, clause: Clause) -> bool
-        ensures room { λ r. ⌜ r ≡ lastHasRoom clause (draftOf (now (self .entry)) .policies) ⌝ }
+        ensures room { λ r. ⌜ r ≡ lastRoom (hasRoom clause) (draftOf (now (self .entry)) .policies) ⌝ }
         ensures after { λ r. ⌜ draftOf (now (self .exit)) ≡ cond r (withPolicies (lastFilled clause (draftOf (now (self .entry)) .policies)) (draftOf (now (self .entry)))) (draftOf (now (self .entry))) ⌝ }
     {
         self.policies.fill_last(clause)

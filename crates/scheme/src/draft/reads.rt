@@ -1,11 +1,12 @@
 // What a draft declares so far.
 ghost use mathlib.Core.Path.{_≡_};
 ghost use mathlib.Core.List.{map};
-ghost use Prim.Native.Nat.{_≤_};
+ghost use Prim.Native.Nat.{_<_, _≤_};
 ghost use lib.ListN.{length};
+ghost use Rattle.std.specs.Options.{Cases};
 ghost use Rattle.bounded.specs.Items.{items};
 ghost use Rattle.scheme.specs.Names.{indexOf};
-ghost use Rattle.scheme.specs.Models.{attributeOf, objectOf, policyOf, bareModel, attributeNames, objectNames, policyNames};
+ghost use Rattle.scheme.specs.Models.{attributeOf, objectOf, policyOf, bareModel, namesOf, roomFor};
 ghost use Rattle.scheme.specs.Drafts.{draftOf};
 use super::Draft;
 use crate::entries::Attribute;
@@ -16,6 +17,7 @@ use crate::entries::ObjectNamed;
 use crate::entries::Policy;
 use crate::entries::PolicyNamed;
 use crate::entries::Query;
+use crate::kind::Kind;
 use crate::names::Name;
 use crate::names::find;
 use crate::policies::Policies;
@@ -71,43 +73,32 @@ impl Draft {
         self.queries.as_slice()
     }
 
-    // The number of the attribute with this name.
-    pub fn attribute(&self, name: &[u8]) -> Option<u8>
-        ensures { λ r. ⌜ r ≡ indexOf (now (name .entry)) (attributeNames (draftOf (now (self .entry)))) ⌝ }
+    // Whether there may be one entry more of this kind; clauses count in the policy opened last.
+    pub fn has_room(&self, kind: Kind) -> bool
+        ensures { λ r. ⌜ r ≡ roomFor kind (draftOf (now (self .entry))) ⌝ }
     {
-        match find(self.attributes(), name) {
-            Some(i) => Some(i as u8),
-            None => None,
+        match kind {
+            Kind::Attr => self.attributes.has_room(),
+            Kind::Right => self.rights.has_room(),
+            Kind::Object => self.objects.has_room(),
+            Kind::Policy => self.policies.has_room(),
+            Kind::If => self.policies.has_predicate_room(),
+            Kind::Do => self.policies.has_action_room(),
+            Kind::Query => self.queries.has_room(),
         }
     }
 
-    // The number of the right with this name.
-    pub fn right(&self, name: &[u8]) -> Option<u32>
-        ensures { λ r. ⌜ r ≡ indexOf (now (name .entry)) (draftOf (now (self .entry)) .rights) ⌝ }
+    // The number of the entry of this kind with this name.
+    pub fn find(&self, kind: Kind, name: &[u8]) -> Option<usize>
+        ensures value { λ r. ⌜ r ≡ indexOf (now (name .entry)) (namesOf kind (draftOf (now (self .entry)))) ⌝ }
+        ensures few { λ r. ⌜ Cases r (Unit {0}) (λ i. i < 32) ⌝ }
     {
-        match find(self.rights(), name) {
-            Some(i) => Some(i as u32),
-            None => None,
-        }
-    }
-
-    // The number of the object with this name.
-    pub fn object(&self, name: &[u8]) -> Option<u32>
-        ensures { λ r. ⌜ r ≡ indexOf (now (name .entry)) (objectNames (draftOf (now (self .entry)))) ⌝ }
-    {
-        match find(self.objects(), name) {
-            Some(i) => Some(i as u32),
-            None => None,
-        }
-    }
-
-    // The number of the policy with this name.
-    pub fn policy(&self, name: &[u8]) -> Option<u32>
-        ensures { λ r. ⌜ r ≡ indexOf (now (name .entry)) (policyNames (draftOf (now (self .entry)))) ⌝ }
-    {
-        match find(self.policies(), name) {
-            Some(i) => Some(i as u32),
-            None => None,
+        match kind {
+            Kind::Attr => find(self.attributes(), name),
+            Kind::Right => find(self.rights(), name),
+            Kind::Object => find(self.objects(), name),
+            Kind::Policy => find(self.policies(), name),
+            Kind::If | Kind::Do | Kind::Query => None,
         }
     }
 }

@@ -6,8 +6,8 @@ ghost use Prim.Native.Nat.{_<_, _≤_};
 ghost use lib.Dec.{ltb};
 ghost use lib.ListN.{length};
 ghost use Rattle.bounded.specs.Items.{items};
-ghost use Rattle.scheme.specs.Models.{policyOf, opened, hasRoom, filled};
-ghost use Rattle.scheme.specs.Tables.{policiesOf, Fit, lastHasRoom, lastFilled};
+ghost use Rattle.scheme.specs.Models.{policyOf, opened, predicateRoom, actionRoom, hasRoom, filled, lastRoom, lastFilled};
+ghost use Rattle.scheme.specs.Tables.{policiesOf, Fit};
 use super::Policies;
 use crate::entries::Policy;
 use crate::names::Name;
@@ -62,6 +62,35 @@ impl Policies {
         &all[0..self.len]
     }
 
+    pub(crate) fn has_room(&self) -> bool
+        requires { ⌜ Fit (now self) ⌝ }
+        ensures { λ r. ⌜ r ≡ ltb (length (policiesOf (now (self .entry)))) 32 ⌝ }
+    {
+        self.len < MAX_POLICIES
+    }
+
+    // Whether the policy opened last has room for one predicate more.
+    pub(crate) fn has_predicate_room(&self) -> bool
+        requires { ⌜ Fit (now self) ⌝ }
+        ensures { λ r. ⌜ r ≡ lastRoom predicateRoom (policiesOf (now (self .entry))) ⌝ }
+    {
+        match self.as_slice().last() {
+            Some(policy) => policy.predicates.has_room(),
+            None => false,
+        }
+    }
+
+    // Whether the policy opened last has room for one action more.
+    pub(crate) fn has_action_room(&self) -> bool
+        requires { ⌜ Fit (now self) ⌝ }
+        ensures { λ r. ⌜ r ≡ lastRoom actionRoom (policiesOf (now (self .entry))) ⌝ }
+    {
+        match self.as_slice().last() {
+            Some(policy) => policy.actions.has_room(),
+            None => false,
+        }
+    }
+
     // Opens the next policy, or answers false where the table is full.
     pub(crate) fn open_next(&mut self, name: Name, right: u32) -> bool
         requires { ⌜ Fit (now self) ⌝ }
@@ -81,7 +110,7 @@ impl Policies {
     pub(crate) fn fill_last(&mut self, clause: Clause) -> bool
         requires { ⌜ Fit (now self) ⌝ }
         ensures fit { λ _. ⌜ Fit (now (self .exit)) ⌝ }
-        ensures room { λ r. ⌜ r ≡ lastHasRoom clause (policiesOf (now (self .entry))) ⌝ }
+        ensures room { λ r. ⌜ r ≡ lastRoom (hasRoom clause) (policiesOf (now (self .entry))) ⌝ }
         ensures after { λ r. ⌜ policiesOf (now (self .exit)) ≡ cond r (lastFilled clause (policiesOf (now (self .entry)))) (policiesOf (now (self .entry))) ⌝ }
     {
         if self.len == 0 {

@@ -1,8 +1,10 @@
+use mathlib.Core.Path.{sym, _∙_}
 use borrow.Author.Needs.{needs}
 use native.Mathlib.Omega.{arith}
 use Prim.Native.Nat.{_<_, _≤_}
 use lib.ListN.{length}
-use Rattle.scheme.proofs.Rows.{lent-room, lent-after}
+use Rattle.scheme.specs.Models.{hasRoom}
+use Rattle.scheme.proofs.Rows.{last-room, lent-last}
 use Rattle.scheme.proofs.policies.Policies.fill_last.Needs as need
 
 pub returns : need.returns
@@ -12,6 +14,6 @@ returns c =
     let within : t .len ≤ length (t .rows) = omega arith in
     record {
       fit = search needs;
-      room = lent-room (c .args .clause) (c .index-self-last .result) (c .index-self-last .result) (t .rows) (t .len) some within (c .fill .result) (c .fill .ensures .room);
-      after = lent-after (c .args .clause) _ (c .index-self-last .result) (t .rows) (t .len) some within (c .fill .result) (c .fill .ensures .after);
+      room = c .fill .ensures .room ∙ sym (last-room (hasRoom (c .args .clause)) (c .index-self-last .result) (t .rows) (t .len) some within);
+      after = lent-last (c .args .clause) _ (c .index-self-last .result) (t .rows) (t .len) (c .fill .result) some within (c .fill .ensures .after);
     }

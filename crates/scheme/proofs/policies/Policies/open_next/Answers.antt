@@ -1,8 +1,6 @@
 use borrow.Author.Needs.{needs}
 use native.Mathlib.Omega.{arith}
-use Prim.Native.Nat.{_<_, _≤_}
 use mathlib.Core.Path.{refl, sym}
-use lib.ListN.{length}
 use Rattle.std.proofs.shelf.Tests.{lt-ltb, le-ltb}
 use Rattle.scheme.proofs.Rows.{rows-room, row-opened}
 use Rattle.scheme.proofs.policies.Policies.open_next.Needs as need

@@ -1,0 +1,6 @@
+pub mod Kinds
+pub mod Roles
+pub mod Faults
+pub mod Lines
+pub mod Naming
+pub mod Declaring
