@@ -4,3 +4,4 @@ pub mod Faults
 pub mod Lines
 pub mod Naming
 pub mod Declaring
+pub mod Reading

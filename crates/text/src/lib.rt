@@ -13,4 +13,4 @@ pub mod fault;
 pub(crate) mod line;
 pub(crate) mod names;
 pub(crate) mod declare;
-//pub mod read;
+pub mod read;
