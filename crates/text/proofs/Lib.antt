@@ -1,2 +1,7 @@
 mod Sizes
 mod Copying
+mod Checked
+mod Conditions
+mod Misnames
+mod Firsts
+mod Whole

@@ -5,3 +5,4 @@ pub mod Lines
 pub mod Naming
 pub mod Declaring
 pub mod Reading
+pub mod Refusing

@@ -19,7 +19,7 @@ use Rattle.text.specs.declared.fault.LineFault.the-variants as fault
 use Rattle.text.specs.Kinds.{kindIn, inOrder, countAllowed}
 use Rattle.text.specs.Roles.{roleAt, fits}
 
-abbrev orderedKind : Option Kind → PlainWord → Option Kind → Result (Option Kind) LineFault
+abbrev pub orderedKind : Option Kind → PlainWord → Option Kind → Result (Option Kind) LineFault
 orderedKind last w None = Err (fault.Kind (spotOf w))
 orderedKind last w (Some k) = cond (inOrder last k) (Ok (Some k)) (Err (fault.Kind (spotOf w)))
 
@@ -41,7 +41,7 @@ rightForms k ws = inTurn (formCheck k ws) 0 ws
 abbrev pub formedAs : Kind → ℕ → List PlainWord → Result (Unit {0}) LineFault
 formedAs k attributes ws = andThen (rightCount k attributes ws) (λ _. rightForms k ws)
 
-abbrev formedKind : ℕ → List PlainWord → Option Kind → Result (Option Kind) LineFault
+abbrev pub formedKind : ℕ → List PlainWord → Option Kind → Result (Option Kind) LineFault
 formedKind attributes ws None = Ok None
 formedKind attributes ws (Some k) = andThen (formedAs k attributes ws) (λ _. Ok (Some k))
 

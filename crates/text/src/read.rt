@@ -9,6 +9,7 @@ ghost use Rattle.scheme.specs.Schemes.{schemeOf};
 ghost use Rattle.words.specs.Outcomes.{after, mapOk};
 ghost use Rattle.words.specs.Positions.{lineOf};
 ghost use Rattle.words.specs.Cuts.{lineWords, textLines};
+ghost use Rattle.text.specs.Refusing.{Lawful};
 ghost use Rattle.text.specs.Reading.{afterLine, namedLine, readLine, complete, finished, readLines, start, reading};
 use crate::declare::declare;
 use crate::fault::LineFault;
@@ -108,8 +109,7 @@ fn read_lines(text: &[u8]) -> Result<Scheme, SchemeFault>
     finish(draft, number)
 }
 
-// Reads a text. An accepted one replaces all that the scheme held; a refused one leaves it as it was.
-pub fn read(scheme: &mut Scheme, text: &[u8]) -> Result<(), SchemeFault>
+fn read_text(scheme: &mut Scheme, text: &[u8]) -> Result<(), SchemeFault>
     ensures result { λ r. ⌜ after r (schemeOf (now (scheme .exit))) ≡ reading (now (text .entry)) ⌝ }
     ensures kept { λ r. ⌜ (isErr r ≡ true → now (scheme .exit) ≡ now (scheme .entry)) ⌝ }
 {
@@ -118,4 +118,14 @@ pub fn read(scheme: &mut Scheme, text: &[u8]) -> Result<(), SchemeFault>
     }
     *scheme = read_lines(text)?;
     Ok(())
+}
+
+// Reads a text. An accepted one replaces all that the scheme held; a refused one leaves it as it was.
+// `lawful`: the answer is the one that the table of refusals gives, and the table gives no other.
+pub fn read(scheme: &mut Scheme, text: &[u8]) -> Result<(), SchemeFault>
+    ensures result { λ r. ⌜ after r (schemeOf (now (scheme .exit))) ≡ reading (now (text .entry)) ⌝ }
+    ensures kept { λ r. ⌜ (isErr r ≡ true → now (scheme .exit) ≡ now (scheme .entry)) ⌝ }
+    ensures lawful { λ r. ⌜ Lawful (now (text .entry)) (after r (schemeOf (now (scheme .exit)))) ⌝ }
+{
+    read_text(scheme, text)
 }
