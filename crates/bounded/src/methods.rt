@@ -14,7 +14,10 @@ impl<T: Copy, const N: usize> Bounded<T, N> {
     pub fn new(filler: T) -> Self
         ensures { λ r. ⌜ items r ≡ [] ⌝ }
     {
-        Bounded { array: [filler; N], len: 0 }
+        Bounded {
+            array: [filler; N],
+            len: 0,
+        }
     }
 
     pub fn as_slice(&self) -> &[T]

@@ -2,7 +2,9 @@
 ghost use mathlib.Core.Path.{_≡_};
 ghost use Rattle.text.specs.Reading.{reading};
 ghost use Rattle.report.specs.Headlines.{headlineOf};
+
 pub mod headline;
+
 use headline::Headline;
 use scheme::record::Scheme;
 use text::read::read;
@@ -17,3 +19,6 @@ pub fn headline_of(text: &[u8]) -> Headline
         Err(fault) => Headline::Refused(fault.report()),
     }
 }
+
+#[cfg(test)]
+mod tests;

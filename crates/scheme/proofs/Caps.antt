@@ -1,4 +1,4 @@
--- Products that are cut off at a bound L. 
+-- Products that are cut off at a bound L.
 use mathlib.Core.Path.{_≡_, refl, sym, ap, _∙_}
 use mathlib.Core.Logic.{⊎-elim}
 use mathlib.Core.List.{List, [], _∷_, map}
@@ -47,10 +47,11 @@ module _ (L : ℕ) where
   -- one attribute more
   pub combinations-more : {X : Type 0} (f : X → AttributeModel) (xs : List X) (i product r t : ℕ) (x : X) → i < length xs → x ≡ getD xs i x → r ≡ min (product * (f x .size + 1)) L → min (product * combinations (map f (drop i xs))) L ≡ t → (min (r * combinations (map f (drop (i + 1) xs))) L ≡ t) × (r ≤ L)
   combinations-more f xs i product r t x h read made inv =
-      let rest = combinations (map f (drop (i + 1) xs)) in
-      (ap (λ n. min (n * rest) L) made ∙ cap-mul (product * (f x .size + 1)) rest ∙ ap (λ n. min n L) (mul-assoc product (f x .size + 1) rest)
-        ∙ ap (λ y. min (product * ((f y .size + 1) * rest)) L) read ∙ ap (λ n. min (product * n) L) (sym (at-drop-more (λ l. combinations (map f l)) xs i x h)) ∙ inv,
-       let low = min-le-right (product * (f x .size + 1)) L in omega arith)
+      let rest = combinations (map f (drop (i + 1) xs)) in (
+        ap (λ n. min (n * rest) L) made ∙ cap-mul (product * (f x .size + 1)) rest ∙ ap (λ n. min n L) (mul-assoc product (f x .size + 1) rest)
+            ∙ ap (λ y. min (product * ((f y .size + 1) * rest)) L) read ∙ ap (λ n. min (product * n) L) (sym (at-drop-more (λ l. combinations (map f l)) xs i x h)) ∙ inv,
+        let low = min-le-right (product * (f x .size + 1)) L in omega arith,
+      )
 
   pub combinations-all : {X : Type 0} (f : X → AttributeModel) (xs : List X) (i product t : ℕ) → length xs ≤ i → product ≤ L → min (product * combinations (map f (drop i xs))) L ≡ t → product ≡ t
   combinations-all f xs i product t h le inv =
@@ -58,9 +59,10 @@ module _ (L : ℕ) where
 
   -- one object more
   pub power-more : (codes i states r : ℕ) → states ≡ min (codes ^ i) L → r ≡ min (states * codes) L → (r ≡ min (codes ^ (i + 1)) L) × (r ≤ L)
-  power-more codes i states r inv made =
-      (made ∙ ap (λ x. min (x * codes) L) inv ∙ cap-mul (codes ^ i) codes ∙ ap (λ x. min x L) (sym (pow-suc codes i) ∙ ap (λ k. codes ^ k) (sym (add-one i))),
-       let low = min-le-right (states * codes) L in omega arith)
+  power-more codes i states r inv made = (
+    made ∙ ap (λ x. min (x * codes) L) inv ∙ cap-mul (codes ^ i) codes ∙ ap (λ x. min x L) (sym (pow-suc codes i) ∙ ap (λ k. codes ^ k) (sym (add-one i))),
+    let low = min-le-right (states * codes) L in omega arith,
+  )
 
   pub power-all : (c codes n states : ℕ) → codes ≡ min c L + 1 → states ≡ min (codes ^ n) L → states ≡ min ((1 + c) ^ n) L
   power-all c codes n states is inv = inv ∙ cap-pow codes (1 + c) n (ap (λ x. min x L) is ∙ cap-suc c)

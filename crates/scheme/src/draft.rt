@@ -17,5 +17,5 @@ pub struct Draft {
     ghost fit: { Fit policies },
 }
 
-mod reads;
 mod adds;
+mod reads;

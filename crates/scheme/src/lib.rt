@@ -7,10 +7,10 @@
 // policies  the plain table of policies, which lends its last one to be filled
 // draft     a scheme that is being read, line by line
 // record    an accepted scheme, whose count of states is known and within its bound
-pub mod kind;
-pub mod terms;
-pub mod names;
-pub mod entries;
-pub mod policies;
 pub mod draft;
+pub mod entries;
+pub mod kind;
+pub mod names;
+pub mod policies;
 pub mod record;
+pub mod terms;

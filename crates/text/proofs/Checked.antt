@@ -49,11 +49,14 @@ module _ {X E : Type 0} (check : ℕ → X → Result (Unit {0}) E) (d : X) wher
   stop-later : (i : ℕ) (x : X) (xs : List X) (e : E) → check i x ≡ Ok tt → Stop (i + 1) xs e → Stop i (x ∷ xs) e
   unfolding Stop
   stop-later i x xs e passed (j, (h, refused, before)) =
-      let at : i + suc j ≡ i + 1 + j = omega arith in
-      (suc j,
-       (omega arith,
-        ap (λ n. check n (getD xs j d)) at ∙ refused,
-        earlier))
+      let at : i + suc j ≡ i + 1 + j = omega arith in (
+        suc j,
+        (
+          omega arith,
+          ap (λ n. check n (getD xs j d)) at ∙ refused,
+          earlier,
+        ),
+      )
     where
       earlier : (k : ℕ) → k < suc j → check (i + k) (getD (x ∷ xs) k d) ≡ Ok tt
       earlier zero h = ap (λ n. check n x) (add-zero i) ∙ passed
@@ -94,12 +97,15 @@ module _ {X E : Type 0} (check : ℕ → X → Result (Unit {0}) E) (d : X) wher
     unfolding Stop
     row-first e h =
         let s = stopped 0 xs e h in
-        let i = s .0 in
-        (i,
-         (means i e (s .1 .0) (ap (λ n. check n (getD xs i d)) (sym (zero-add i)) ∙ s .1 .1),
-          λ j f a. ⊎-elim
-            (λ (less : j < i).
-              let at = refuses j f a in
-              absurd (both (check j (getD xs j d)) tt f (ap (λ n. check n (getD xs j d)) (sym (zero-add j)) ∙ s .1 .2 j less) (at .1)))
-            (λ (more : i ≤ j). more)
-            (cases-lt j i)))
+        let i = s .0 in (
+          i,
+          (
+            means i e (s .1 .0) (ap (λ n. check n (getD xs i d)) (sym (zero-add i)) ∙ s .1 .1),
+            λ j f a. ⊎-elim
+                (λ (less : j < i).
+                let at = refuses j f a in
+                absurd (both (check j (getD xs j d)) tt f (ap (λ n. check n (getD xs j d)) (sym (zero-add j)) ∙ s .1 .2 j less) (at .1)))
+                (λ (more : i ≤ j). more)
+                (cases-lt j i),
+          ),
+        )

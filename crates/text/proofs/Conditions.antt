@@ -22,13 +22,13 @@ use Rattle.words.specs.Positions.{PlainLine, PlainWord, noWord, spotOf, wordIn}
 use Rattle.words.specs.Cuts.{wordsOf}
 use Rattle.words.specs.Tokens.{formOf}
 use Rattle.words.specs.Plain.{printable, shortWord, byteCheck, lengthCheck, plainBytes, shortWords}
-use Rattle.text.specs.declared.fault.LineFault.{LineFault}
-use Rattle.text.specs.declared.fault.LineFault.the-variants as line
+use Rattle.lines.specs.declared.fault.LineFault.{LineFault}
+use Rattle.lines.specs.declared.fault.LineFault.the-variants as line
 use Rattle.text.specs.declared.fault.SchemeFault.{SchemeFault}
 use Rattle.text.specs.declared.fault.SchemeFault.the-variants.{OfLine, Most}
-use Rattle.text.specs.Kinds.{kindIn, inOrder, countAllowed}
-use Rattle.text.specs.Roles.{roleAt, fits}
-use Rattle.text.specs.Lines.{orderedKind, lineKind, rightCount, formCheck, rightForms}
+use Rattle.lines.specs.Kinds.{kindIn, inOrder, countAllowed}
+use Rattle.lines.specs.Roles.{roleAt, fits}
+use Rattle.lines.specs.Lines.{orderedKind, lineKind, rightCount, formCheck, rightForms}
 use Rattle.text.specs.Naming.{underMost}
 use Rattle.text.specs.Reading.{Progress}
 use Rattle.text.specs.Refusing.{Row, bytes, lengths, kinds, counts, forms, most, wordAt, Opens, Unplaced, Applies}
@@ -113,13 +113,13 @@ module _ (p : Progress) (l : PlainLine) where
       ⊎-elim
       (λ (none : kindIn (wordAt l 0 .bytes) ≡ None). let some = opened .1 in let z : _≡_ {A = ℕ} 0 1 = cc in omega arith)
       (λ (other : (o : Kind) × ((kindIn (wordAt l 0 .bytes) ≡ Some o) × (inOrder (p .last) o ≡ false))).
-        let some = opened .1 in
-        let is = other .1 .0 in
-        let not-ordered = other .1 .1 in
-        let same : other .0 ≡ k = cc in
-        let no : inOrder (p .last) k ≡ false = ap (inOrder (p .last)) (sym same) ∙ not-ordered in
-        let z : true ≡ false = sym ordered ∙ no in
-        let z′ : _≡_ {A = ℕ} 0 1 = cc in omega arith)
+      let some = opened .1 in
+      let is = other .1 .0 in
+      let not-ordered = other .1 .1 in
+      let same : other .0 ≡ k = cc in
+      let no : inOrder (p .last) k ≡ false = ap (inOrder (p .last)) (sym same) ∙ not-ordered in
+      let z : true ≡ false = sym ordered ∙ no in
+      let z′ : _≡_ {A = ℕ} 0 1 = cc in omega arith)
       (a .2)
 
   pub kinds-first : (e : LineFault) → lineKind (p .last) ws ≡ Err e → Leftmost p l kinds (OfLine e)

@@ -31,14 +31,15 @@ module _ (al : List AttributeModel) (ws : List PlainWord) (i : ℕ) (vs : List (
   values-more new v r h few long is room pushed =
       let free : r ≡ true = room ∙ lt-ltb _ _ (omega arith) in
       let grown : new ≡ vs ++ v ∷ [] = pushed ∙ ap (λ t. cond t (vs ++ v ∷ []) vs) free in
-      let at : i + 1 + 2 ≡ i + 2 + 1 = omega arith in
-      (ap (λ l. l ++ valuesAt (i + 1 + 2) (drop (i + 1) al) ws) grown
-        ∙ append-assoc vs (v ∷ []) (valuesAt (i + 1 + 2) (drop (i + 1) al) ws)
-        ∙ ap (λ k. vs ++ v ∷ valuesAt k (drop (i + 1) al) ws) at
-        ∙ ap (λ x. vs ++ x ∷ valuesAt (i + 2 + 1) (drop (i + 1) al) ws) is
-        ∙ ap (λ l. vs ++ l) (sym (at-drop-more (λ l. valuesAt (i + 2) l ws) al i (record { name = []; size = 0 }) h))
-        ∙ inv,
-       ap length grown ∙ length-push vs v ∙ ap (λ n. n + 1) long)
+      let at : i + 1 + 2 ≡ i + 2 + 1 = omega arith in (
+        ap (λ l. l ++ valuesAt (i + 1 + 2) (drop (i + 1) al) ws) grown
+            ∙ append-assoc vs (v ∷ []) (valuesAt (i + 1 + 2) (drop (i + 1) al) ws)
+            ∙ ap (λ k. vs ++ v ∷ valuesAt k (drop (i + 1) al) ws) at
+            ∙ ap (λ x. vs ++ x ∷ valuesAt (i + 2 + 1) (drop (i + 1) al) ws) is
+            ∙ ap (λ l. vs ++ l) (sym (at-drop-more (λ l. valuesAt (i + 2) l ws) al i (record { name = []; size = 0 }) h))
+            ∙ inv,
+        ap length grown ∙ length-push vs v ∙ ap (λ n. n + 1) long,
+      )
 
   pub values-all : length al ≤ i → vs ≡ valuesAt 2 al ws
   values-all h = sym (append-nil vs) ∙ ap (λ l. vs ++ l) (sym (at-drop-all (λ l. valuesAt (i + 2) l ws) al i h)) ∙ inv

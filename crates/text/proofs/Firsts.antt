@@ -19,12 +19,12 @@ use Rattle.words.specs.Outcomes.{andThen, carried}
 use Rattle.words.specs.Positions.{PlainLine, PlainWord, wordIn}
 use Rattle.words.specs.Cuts.{wordsOf}
 use Rattle.words.specs.Plain.{plainBytes, shortWords}
-use Rattle.text.specs.declared.fault.LineFault.{LineFault}
-use Rattle.text.specs.declared.fault.LineFault.the-variants.{OfWords}
+use Rattle.lines.specs.declared.fault.LineFault.{LineFault}
+use Rattle.lines.specs.declared.fault.LineFault.the-variants.{OfWords}
 use Rattle.text.specs.declared.fault.SchemeFault.{SchemeFault}
 use Rattle.text.specs.declared.fault.SchemeFault.the-variants.{OfLine}
-use Rattle.text.specs.Kinds.{kindIn, inOrder}
-use Rattle.text.specs.Lines.{lineKind, rightCount, rightForms, formedKind}
+use Rattle.lines.specs.Kinds.{kindIn, inOrder}
+use Rattle.lines.specs.Lines.{lineKind, rightCount, rightForms, formedKind}
 use Rattle.text.specs.Naming.{underMost, rightNames, nameCheck}
 use Rattle.text.specs.Declaring.{declared}
 use Rattle.text.specs.Reading.{Progress, readKind, readLine}
@@ -96,14 +96,15 @@ module _ (p : Progress) (l : PlainLine) where
     index = found .0;
     applies = found .1 .0;
     before = λ r i g a.
-      ⊎-elim
-      (λ (lower : rank r < rank row). absurd (clear r lower i g a))
-      (λ (upper : rank row ≤ rank r).
+        ⊎-elim
+        (λ (lower : rank r < rank row). absurd (clear r lower i g a))
+        (λ (upper : rank row ≤ rank r).
         ⊎-elim
         (λ (higher : rank row < rank r). inl higher)
         (λ (lower : rank r ≤ rank row). let same : row ≡ r = rank-only row r (omega arith) in inr (same, found .1 .1 i g (subst (λ x. Applies p l x i g) (sym same) a)))
         (cases-lt (rank row) (rank r)))
-      (cases-lt (rank r) (rank row)) }
+        (cases-lt (rank r) (rank row));
+  }
 
   -- what the reading of the line should show of its outcome
   Outcome : Result Progress SchemeFault → Type 0
@@ -124,9 +125,10 @@ module _ (p : Progress) (l : PlainLine) where
     at-names : Upto 6 → (r : Result (Unit {0}) SchemeFault) → rightNames (p .scheme) k ws ≡ r → Outcome (afterNames (andThen r (λ _. Ok (declared k ws (p .scheme)))))
     unfolding Outcome
     at-names clear (Err f) h = first-of names clear f (names-first p l k opened f h)
-    at-names clear (Ok tt) h =
-        (faultless (upto-more 6 names refl clear (names-clear p l k opened h)),
-         ap (below p ws) (sym (first-kind ws k (opened .0) (opened .1))))
+    at-names clear (Ok tt) h = (
+      faultless (upto-more 6 names refl clear (names-clear p l k opened h)),
+      ap (below p ws) (sym (first-kind ws k (opened .0) (opened .1))),
+    )
 
     at-most : Upto 5 → (r : Result (Unit {0}) SchemeFault) → underMost k (p .scheme) ws ≡ r → Outcome (afterNames (andThen r (λ _. andThen (rightNames (p .scheme) k ws) (λ _. Ok (declared k ws (p .scheme))))))
     unfolding Outcome
@@ -150,12 +152,12 @@ module _ (p : Progress) (l : PlainLine) where
       let empty : length ws ≡ 0 = ap length none in
       upto-more 6 names refl
       (upto-more 5 most refl
-        (upto-more 4 forms refl
-          (upto-more 3 counts refl
-            (upto-more 2 kinds refl clear (λ i g a. omega (arith, a .1)))
-            (λ i g a. omega (arith, a .1 .1 .0 .0)))
-          (λ i g a. omega (arith, a .1)))
-        (λ i g a. omega (arith, a .1 .1 .0 .0)))
+      (upto-more 4 forms refl
+      (upto-more 3 counts refl
+      (upto-more 2 kinds refl clear (λ i g a. omega (arith, a .1)))
+      (λ i g a. omega (arith, a .1 .1 .0 .0)))
+      (λ i g a. omega (arith, a .1)))
+      (λ i g a. omega (arith, a .1 .1 .0 .0)))
       (λ i g a. omega (arith, a .1))
 
   at-kinds : Upto 2 → (r : Result (Option Kind) LineFault) → lineKind (p .last) ws ≡ r → Outcome (afterForms (andThen r (formedKind n ws)))
@@ -193,17 +195,17 @@ module _ (p : Progress) (l : PlainLine) where
   first-only f g a b =
       ⊎-elim
       (λ (less : rank (a .row) < rank (b .row)).
-        ⊎-elim
-        (λ (more : rank (b .row) < rank (a .row)). absurd (omega arith))
-        (λ (same : (b .row ≡ a .row) × (b .index ≤ a .index)). let e = ap rank (same .0) in absurd (omega arith))
-        (b .before (a .row) (a .index) f (a .applies)))
+      ⊎-elim
+      (λ (more : rank (b .row) < rank (a .row)). absurd (omega arith))
+      (λ (same : (b .row ≡ a .row) × (b .index ≤ a .index)). let e = ap rank (same .0) in absurd (omega arith))
+      (b .before (a .row) (a .index) f (a .applies)))
       (λ (same : (a .row ≡ b .row) × (a .index ≤ b .index)).
-        ⊎-elim
-        (λ (more : rank (b .row) < rank (a .row)). let e = ap rank (same .0) in absurd (omega arith))
-        (λ (back : (b .row ≡ a .row) × (b .index ≤ a .index)).
-          let here : b .index ≡ a .index = omega (arith, same .1, back .1) in
-          same-fault (a .row) (a .index) f g (a .applies) (subst (λ i. Applies p l (a .row) i g) here (subst (λ r. Applies p l r (b .index) g) (back .0) (b .applies))))
-        (b .before (a .row) (a .index) f (a .applies)))
+      ⊎-elim
+      (λ (more : rank (b .row) < rank (a .row)). let e = ap rank (same .0) in absurd (omega arith))
+      (λ (back : (b .row ≡ a .row) × (b .index ≤ a .index)).
+      let here : b .index ≡ a .index = omega (arith, same .1, back .1) in
+      same-fault (a .row) (a .index) f g (a .applies) (subst (λ i. Applies p l (a .row) i g) here (subst (λ r. Applies p l r (b .index) g) (back .0) (b .applies))))
+      (b .before (a .row) (a .index) f (a .applies)))
       (a .before (b .row) (b .index) g (b .applies))
 
   refused-from : (r : Result Progress SchemeFault) → Outcome r → (f : SchemeFault) → First p l f → r ≡ Err f

@@ -17,11 +17,11 @@ use Rattle.scheme.specs.Models.{SchemeModel, attributeNames, namesOf}
 use Rattle.words.specs.Positions.{PlainLine, PlainWord, noWord, spotOf, wordIn}
 use Rattle.words.specs.Cuts.{wordsOf}
 use Rattle.words.specs.Tokens.{Form, name, number, term, operator, other, formOf}
-use Rattle.text.specs.declared.role.Role.{Role}
-use Rattle.text.specs.declared.role.Role.the-variants as role
+use Rattle.lines.specs.declared.role.Role.{Role}
+use Rattle.lines.specs.declared.role.Role.the-variants as role
 use Rattle.text.specs.declared.fault.SchemeFault.{SchemeFault}
 use Rattle.text.specs.declared.fault.SchemeFault.the-variants.{Used, Undefined, Range}
-use Rattle.text.specs.Roles.{roleAt}
+use Rattle.lines.specs.Roles.{roleAt}
 use Rattle.text.specs.Naming.{sizeAt, newCheck, knownCheck, termFormCheck, numberCheck, roleCheck, nameCheck, rightNames}
 use Rattle.text.specs.Reading.{Progress}
 use Rattle.text.specs.Refusing.{names, wordAt, Opens, Taken, Unknown, Unattributed, Oversized, Overvalued, Misnamed, Applies}

@@ -17,7 +17,7 @@ use Rattle.words.specs.declared.fault.WordFault.the-variants.{LongText}
 use Rattle.words.specs.Outcomes.{andThen}
 use Rattle.words.specs.Positions.{PlainLine}
 use Rattle.words.specs.Cuts.{textLines}
-use Rattle.text.specs.declared.fault.LineFault.the-variants.{OfWords}
+use Rattle.lines.specs.declared.fault.LineFault.the-variants.{OfWords}
 use Rattle.text.specs.declared.fault.SchemeFault.{SchemeFault}
 use Rattle.text.specs.declared.fault.SchemeFault.the-variants.{OfLine, Missing, States}
 use Rattle.text.specs.Reading.{Progress, start, readLine, complete, fewStates, finished, readLines, reading}
@@ -31,10 +31,10 @@ incomplete m h =
     ⊎-elim
     (λ none. let low = leb-false 1 (length (m .attributes)) none in inl (omega arith))
     (λ rest.
-      ⊎-elim
-      (λ none. let low = leb-false 1 (length (m .rights)) none in inr (inl (omega arith)))
-      (λ none. let low = leb-false 1 (length (m .objects)) none in inr (inr (omega arith)))
-      (and-cases (leb 1 (length (m .rights))) (leb 1 (length (m .objects))) rest))
+    ⊎-elim
+    (λ none. let low = leb-false 1 (length (m .rights)) none in inr (inl (omega arith)))
+    (λ none. let low = leb-false 1 (length (m .objects)) none in inr (inr (omega arith)))
+    (and-cases (leb 1 (length (m .rights))) (leb 1 (length (m .objects))) rest))
     (and-cases (leb 1 (length (m .attributes))) (leb 1 (length (m .rights)) && leb 1 (length (m .objects))) h)
 
 is-incomplete : (m : SchemeModel) → Incomplete m → complete m ≡ false
@@ -170,4 +170,5 @@ module _ (text : List ℕ) where
   pub reading-is-lawful : (answer : Result SchemeModel SchemeFault) → answer ≡ reading text → Lawful text answer
   reading-is-lawful answer is = record {
     judged = subst (Judged text) (sym is) (judged-sized (leb (length text) 65535) refl);
-    only = λ other a. sym (reads other a) ∙ sym is }
+    only = λ other a. sym (reads other a) ∙ sym is;
+  }

@@ -136,17 +136,18 @@ actionIn m ws =
     cond (eqb (length ws) 3)
     (Destroy (partyIn (wordIn ws 2)))
     (cond (sameBytes (wordIn ws 2 .bytes) (codes "to"))
-      (sourceIn m (termIn m (wordIn ws 1)) (wordIn ws 3))
-      (cond (sameBytes (wordIn ws 2 .bytes) (codes "add"))
-        (Add (termIn m (wordIn ws 1)) (numberIn (wordIn ws 3)))
-        (Sub (termIn m (wordIn ws 1)) (numberIn (wordIn ws 3)))))
+    (sourceIn m (termIn m (wordIn ws 1)) (wordIn ws 3))
+    (cond (sameBytes (wordIn ws 2 .bytes) (codes "add"))
+    (Add (termIn m (wordIn ws 1)) (numberIn (wordIn ws 3)))
+    (Sub (termIn m (wordIn ws 1)) (numberIn (wordIn ws 3)))))
 
 -- `query` subject object right
 abbrev pub queryIn : SchemeModel → List PlainWord → Query
 queryIn m ws = record {
   subject = numberAmong (wordIn ws 1 .bytes) (objectNames m);
   object = numberAmong (wordIn ws 2 .bytes) (objectNames m);
-  right = numberAmong (wordIn ws 3 .bytes) (m .rights) }
+  right = numberAmong (wordIn ws 3 .bytes) (m .rights);
+}
 
 -- what a line of a kind adds
 abbrev pub declared : Kind → List PlainWord → SchemeModel → SchemeModel

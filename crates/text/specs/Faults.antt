@@ -1,16 +1,9 @@
--- Number, line and place of each fault.
+-- Number, line and place of each fault of a scheme.
 use Rattle.words.specs.declared.fault.Report.{Report}
-use Rattle.words.specs.Faults.{at, wordReport}
-use Rattle.text.specs.declared.fault.LineFault.{LineFault}
-use Rattle.text.specs.declared.fault.LineFault.the-variants.{OfWords, Kind, Count, Form}
+use Rattle.words.specs.Faults.{at}
+use Rattle.lines.specs.Faults.{lineReport}
 use Rattle.text.specs.declared.fault.SchemeFault.{SchemeFault}
 use Rattle.text.specs.declared.fault.SchemeFault.the-variants.{OfLine, Used, Undefined, Range, Most, Missing, States}
-
-abbrev pub lineReport : LineFault → Report
-lineReport (OfWords w) = wordReport w
-lineReport (Kind s) = at 10 s
-lineReport (Count s) = at 11 s
-lineReport (Form s) = at 12 s
 
 abbrev pub schemeReport : SchemeFault → Report
 schemeReport (OfLine l) = lineReport l

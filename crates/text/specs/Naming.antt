@@ -13,11 +13,11 @@ use Rattle.words.specs.Outcomes.{inTurn}
 use Rattle.words.specs.Positions.{PlainWord, spotOf, wordIn}
 use Rattle.words.specs.Tokens.{Form, name, number, term, operator, other, formOf}
 use Rattle.scheme.specs.declared.kind.Kind.{Kind}
-use Rattle.text.specs.declared.role.Role.{Role}
-use Rattle.text.specs.declared.role.Role.the-variants as role
+use Rattle.lines.specs.declared.role.Role.{Role}
+use Rattle.lines.specs.declared.role.Role.the-variants as role
 use Rattle.text.specs.declared.fault.SchemeFault.{SchemeFault}
 use Rattle.text.specs.declared.fault.SchemeFault.the-variants.{Used, Undefined, Range, Most}
-use Rattle.text.specs.Roles.{roleAt}
+use Rattle.lines.specs.Roles.{roleAt}
 
 -- a line more of its kind is not above the most
 abbrev pub underMost : Kind → SchemeModel → List PlainWord → Result (Unit {0}) SchemeFault

@@ -15,10 +15,10 @@ use Rattle.words.specs.declared.fault.WordFault.the-variants.{LongText}
 use Rattle.words.specs.Outcomes.{andThen, carried}
 use Rattle.words.specs.Positions.{PlainLine, PlainWord}
 use Rattle.words.specs.Cuts.{wordsOf, textLines}
-use Rattle.text.specs.declared.fault.LineFault.the-variants.{OfWords}
+use Rattle.lines.specs.declared.fault.LineFault.the-variants.{OfWords}
 use Rattle.text.specs.declared.fault.SchemeFault.{SchemeFault}
 use Rattle.text.specs.declared.fault.SchemeFault.the-variants.{OfLine, Missing, States}
-use Rattle.text.specs.Lines.{formedLine}
+use Rattle.lines.specs.Lines.{formedLine}
 use Rattle.text.specs.Naming.{underMost, rightNames}
 use Rattle.text.specs.Declaring.{declared}
 

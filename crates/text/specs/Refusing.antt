@@ -21,13 +21,13 @@ use Rattle.words.specs.Positions.{PlainLine, PlainWord, spotOf, wordIn}
 use Rattle.words.specs.Cuts.{wordsOf, textLines}
 use Rattle.words.specs.Tokens.{number, term, formOf}
 use Rattle.words.specs.Plain.{printable}
-use Rattle.text.specs.declared.role.Instead.{Instead}
-use Rattle.text.specs.declared.role.Role.the-variants as role
-use Rattle.text.specs.declared.fault.LineFault.the-variants as line
+use Rattle.lines.specs.declared.role.Instead.{Instead}
+use Rattle.lines.specs.declared.role.Role.the-variants as role
+use Rattle.lines.specs.declared.fault.LineFault.the-variants as line
 use Rattle.text.specs.declared.fault.SchemeFault.{SchemeFault}
 use Rattle.text.specs.declared.fault.SchemeFault.the-variants.{OfLine, Used, Undefined, Range, Most, Missing, States}
-use Rattle.text.specs.Kinds.{kindIn, inOrder, countAllowed}
-use Rattle.text.specs.Roles.{roleAt, fits}
+use Rattle.lines.specs.Kinds.{kindIn, inOrder, countAllowed}
+use Rattle.lines.specs.Roles.{roleAt, fits}
 use Rattle.text.specs.Naming.{sizeAt}
 use Rattle.text.specs.Declaring.{declared}
 use Rattle.text.specs.Reading.{Progress, start}
@@ -95,7 +95,7 @@ abbrev pub Misnamed : SchemeModel → Kind → List PlainWord → ℕ → Scheme
 Misnamed m k ws i f =
     (Taken m k ws i × (f ≡ Used (spotOf (wordIn ws i))))
     ⊎ (((Unknown m k ws i ⊎ Unattributed m k ws i) × (f ≡ Undefined (spotOf (wordIn ws i))))
-      ⊎ ((Oversized k ws i ⊎ Overvalued m k ws i) × (f ≡ Range (spotOf (wordIn ws i)))))
+    ⊎ ((Oversized k ws i ⊎ Overvalued m k ws i) × (f ≡ Range (spotOf (wordIn ws i)))))
 
 -- the condition of a row applies at an index, that of a byte or a word, with a fault
 abbrev pub Applies : Progress → PlainLine → Row → ℕ → SchemeFault → Type 0

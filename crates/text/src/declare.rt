@@ -9,8 +9,8 @@ ghost use Rattle.scheme.specs.Drafts.{draftOf};
 ghost use Rattle.words.specs.Positions.{wordOf};
 ghost use Rattle.words.specs.Cuts.{lineWords};
 ghost use Rattle.text.specs.Declaring.{nameIn, numberIn, valueIn, numberAmong, termIn, operandIn, comparisonIn, partyIn, valuesAt, attributeIn, objectIn, testIn, compareIn, predicateIn, sourceIn, actionIn, queryIn, declared};
-use crate::order::is_word;
 use bounded::Bounded;
+use lines::order::is_word;
 use scheme::draft::Draft;
 use scheme::entries::Attribute;
 use scheme::entries::Object;
@@ -78,7 +78,10 @@ fn term_of(draft: &Draft, word: Word) -> Term
             party,
             attribute: number_among(draft, Kind::Attr, attribute),
         },
-        _ => Term { party: Party::Subject, attribute: 0 },
+        _ => Term {
+            party: Party::Subject,
+            attribute: 0,
+        },
     }
 }
 
@@ -113,13 +116,20 @@ fn comparison_of(word: Word) -> Comparison
 fn party_of(word: Word) -> Party
     ensures { λ r. ⌜ r ≡ partyIn (wordOf (word .entry)) ⌝ }
 {
-    if is_word(word.bytes, b"s") { Party::Subject } else { Party::Object }
+    if is_word(word.bytes, b"s") {
+        Party::Subject
+    } else {
+        Party::Object
+    }
 }
 
 fn attribute_of(line: Line) -> Attribute
     ensures { λ r. ⌜ attributeOf r ≡ attributeIn (lineWords (line .entry)) ⌝ }
 {
-    Attribute { name: name_of(line.word(1)), size: number_of(line.word(2)) }
+    Attribute {
+        name: name_of(line.word(1)),
+        size: number_of(line.word(2)),
+    }
 }
 
 // A value or null for each attribute.
@@ -136,27 +146,42 @@ fn values_of(draft: &Draft, line: Line) -> Bounded<Option<u8>, 4>
 fn object_of(draft: &Draft, line: Line) -> Object
     ensures { λ r. ⌜ objectOf r ≡ objectIn (draftOf (now (draft .entry))) (lineWords (line .entry)) ⌝ }
 {
-    Object { name: name_of(line.word(1)), values: values_of(draft, line) }
+    Object {
+        name: name_of(line.word(1)),
+        values: values_of(draft, line),
+    }
 }
 
 fn test_of(draft: &Draft, line: Line) -> Predicate
     ensures { λ r. ⌜ r ≡ testIn (draftOf (now (draft .entry))) (lineWords (line .entry)) ⌝ }
 {
     let term = term_of(draft, line.word(1));
-    if is_word(line.word(2).bytes, b"null") { Predicate::Null(term) } else { Predicate::Set(term) }
+    if is_word(line.word(2).bytes, b"null") {
+        Predicate::Null(term)
+    } else {
+        Predicate::Set(term)
+    }
 }
 
 fn compare_of(draft: &Draft, line: Line) -> Predicate
     ensures { λ r. ⌜ r ≡ compareIn (draftOf (now (draft .entry))) (lineWords (line .entry)) ⌝ }
 {
     let term = term_of(draft, line.word(1));
-    Predicate::Compare(term, comparison_of(line.word(2)), operand_of(draft, line.word(3)))
+    Predicate::Compare(
+        term,
+        comparison_of(line.word(2)),
+        operand_of(draft, line.word(3)),
+    )
 }
 
 fn predicate_of(draft: &Draft, line: Line) -> Predicate
     ensures { λ r. ⌜ r ≡ predicateIn (draftOf (now (draft .entry))) (lineWords (line .entry)) ⌝ }
 {
-    if line.count_words() == 3 { test_of(draft, line) } else { compare_of(draft, line) }
+    if line.count_words() == 3 {
+        test_of(draft, line)
+    } else {
+        compare_of(draft, line)
+    }
 }
 
 // What `to` assigns.

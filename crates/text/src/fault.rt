@@ -1,21 +1,8 @@
-// The faults of a line and of a scheme. A fault of the words is carried whole in the fault of the
-// line, and that in the scheme's.
+// What can be wrong with a scheme. A fault of a line is carried whole, and in it a fault of its words.
 ghost use mathlib.Core.Path.{_≡_};
-ghost use Rattle.text.specs.declared.fault.LineFault.the-variants.{OfWords};
 ghost use Rattle.text.specs.declared.fault.SchemeFault.the-variants.{OfLine};
-use words::fault::WordFault;
+use lines::fault::LineFault;
 use words::position::Spot;
-
-#[derive(Clone, Copy)]
-pub enum LineFault {
-    OfWords(WordFault),
-    // An unknown first word, or a line out of order.
-    Kind(Spot),
-    // A wrong count of words.
-    Count(Spot),
-    // A word of a form not allowed there.
-    Form(Spot),
-}
 
 #[derive(Clone, Copy)]
 pub enum SchemeFault {
@@ -32,14 +19,6 @@ pub enum SchemeFault {
     Missing(Spot),
     // More states than a scheme may have.
     States(Spot),
-}
-
-pub impl From<WordFault> for LineFault as LineFaultFromWords {
-    ghost converts = { λ w r. r ≡ OfWords w };
-
-    fn from(fault: WordFault) -> LineFault {
-        LineFault::OfWords(fault)
-    }
 }
 
 pub impl From<LineFault> for SchemeFault as SchemeFaultFromLine {

@@ -1,14 +1,13 @@
 // The names and values of a line, and its count among the lines of its kind, against what the lines
 // above declare.
 ghost use mathlib.Core.Path.{_≡_};
-ghost use lib.ListN.{length};
 ghost use Rattle.scheme.specs.Drafts.{draftOf};
 ghost use Rattle.words.specs.Positions.{wordOf};
 ghost use Rattle.words.specs.Cuts.{lineWords};
 ghost use Rattle.text.specs.Naming.{sizeAt, underMost, newCheck, knownCheck, termCheck, sizeCheck, valueCheck, nameCheck, rightNames};
 use crate::fault::SchemeFault;
-use crate::role::Role;
-use crate::role::forms::role;
+use lines::role::Role;
+use lines::role::forms::role;
 use scheme::draft::Draft;
 use scheme::kind::Kind;
 use words::classify::classify;
@@ -66,7 +65,8 @@ fn check_size(word: Word) -> Result<(), SchemeFault>
     ensures { λ r. ⌜ r ≡ sizeCheck (wordOf (word .entry)) ⌝ }
 {
     match classify(word) {
-        Token::Number(_, size) if size < 1 || size > MAX_SIZE => Err(SchemeFault::Range(word.spot())),
+        Token::Number(_, size) if size < 1 || size > MAX_SIZE =>
+            Err(SchemeFault::Range(word.spot())),
         _ => Ok(()),
     }
 }
@@ -94,14 +94,19 @@ fn check_value(word: Word, size: u8) -> Result<(), SchemeFault>
 }
 
 // The name or the value of the word at an index; the first word names the kind and nothing else.
-fn check_name(draft: &Draft, kind: Kind, line: Line, count: usize, index: usize, word: Word) -> Result<(), SchemeFault>
-    requires { ⌜ count ≡ length (lineWords line) ⌝ }
+fn check_name(
+    draft: &Draft,
+    kind: Kind,
+    line: Line,
+    index: usize,
+    word: Word,
+) -> Result<(), SchemeFault>
     ensures { λ r. ⌜ r ≡ nameCheck (draftOf (now (draft .entry))) kind (lineWords (line .entry)) index (wordOf (word .entry)) ⌝ }
 {
     if index == 0 {
         return Ok(());
     }
-    match role(kind, line, count, index) {
+    match role(kind, line, index) {
         Role::NewName => check_new(draft, kind, word),
         Role::Known(of) => check_known(draft, of, word),
         Role::Size => check_size(word),
@@ -115,11 +120,10 @@ fn check_name(draft: &Draft, kind: Kind, line: Line, count: usize, index: usize,
 pub(crate) fn check_names(draft: &Draft, kind: Kind, line: Line) -> Result<(), SchemeFault>
     ensures { λ r. ⌜ r ≡ rightNames (draftOf (now (draft .entry))) kind (lineWords (line .entry)) ⌝ }
 {
-    let count = line.count_words();
     let mut words = Words::of(line);
     let mut index = 0;
     while let Some(word) = words.next() {
-        check_name(draft, kind, line, count, index, word)?;
+        check_name(draft, kind, line, index, word)?;
         index += 1;
     }
     Ok(())

@@ -12,12 +12,12 @@ ghost use Rattle.words.specs.Cuts.{lineWords, textLines};
 ghost use Rattle.text.specs.Refusing.{Lawful};
 ghost use Rattle.text.specs.Reading.{afterLine, namedLine, readLine, complete, finished, readLines, start, reading};
 use crate::declare::declare;
-use crate::fault::LineFault;
 use crate::fault::SchemeFault;
 use crate::fault::SchemeFaultFromLine;
-use crate::line::formed_line;
 use crate::names::check_names;
 use crate::names::check_room;
+use lines::fault::LineFault;
+use lines::line::formed_line;
 use scheme::draft::Draft;
 use scheme::kind::Kind;
 use scheme::record::Scheme;
@@ -80,7 +80,10 @@ fn is_complete(draft: &Draft) -> bool
 fn finish(draft: Draft, number: usize) -> Result<Scheme, SchemeFault>
     ensures { λ r. ⌜ mapOk schemeOf r ≡ finished number (draftOf draft) ⌝ }
 {
-    let spot = Spot { line: number, place: 1 };
+    let spot = Spot {
+        line: number,
+        place: 1,
+    };
     if !is_complete(&draft) {
         return Err(SchemeFault::Missing(spot));
     }
@@ -101,7 +104,10 @@ fn read_lines(text: &[u8]) -> Result<Scheme, SchemeFault>
     let mut at = 0;
     while at < text.len() {
         let end = piece_end(text, at, b'\n');
-        let line = Line { bytes: &text[at..end], number };
+        let line = Line {
+            bytes: &text[at..end],
+            number,
+        };
         last = read_line(&mut draft, line, last)?;
         at = end + 1;
         number += 1;

@@ -63,14 +63,15 @@ module _ (l : PlainLine) where
   words-first i e some within small stops cut =
       let long : length (take (e - i) (drop i bytes)) ≡ e - i = length-take-le (e - i) (drop i bytes) (omega (arith, length-drop i bytes)) in
       let next : e + 1 ≡ i + 1 + length (take (e - i) (drop i bytes)) = omega arith in
-      let end : e ≡ i + 1 - 1 + length (take (e - i) (drop i bytes)) = omega arith in
-      (ap (placed n (suc i)) cut
-       ∙ placed-first i (take (e - i) (drop i bytes)) (pieces 32 (drop (e + 1) bytes)) (omega arith)
-       ∙ ap (λ k. record { bytes = take (e - i) (drop i bytes); line = n; place = i + 1 } ∷ placed n (suc k) (pieces 32 (drop (e + 1) bytes))) (sym next)
-       ∙ ap (λ ws. record { bytes = take (e - i) (drop i bytes); line = n; place = i + 1 } ∷ ws) (resumed e within stops ∙ ap (wordsFrom l) end),
-       omega arith,
-       omega arith,
-       omega arith)
+      let end : e ≡ i + 1 - 1 + length (take (e - i) (drop i bytes)) = omega arith in (
+        ap (placed n (suc i)) cut
+            ∙ placed-first i (take (e - i) (drop i bytes)) (pieces 32 (drop (e + 1) bytes)) (omega arith)
+            ∙ ap (λ k. record { bytes = take (e - i) (drop i bytes); line = n; place = i + 1 } ∷ placed n (suc k) (pieces 32 (drop (e + 1) bytes))) (sym next)
+            ∙ ap (λ ws. record { bytes = take (e - i) (drop i bytes); line = n; place = i + 1 } ∷ ws) (resumed e within stops ∙ ap (wordsFrom l) end),
+        omega arith,
+        omega arith,
+        omega arith,
+      )
 
   -- a piece that begins with another byte than a space is no empty one
   pub first-byte : (i e : ℕ) → i ≤ e → i < length bytes → (getD bytes i 0 ≡ 32 → ⊥) → (e < length bytes → getD bytes e 0 ≡ 32) → i < e

@@ -21,7 +21,10 @@ fn check_bytes(line: Line) -> Result<(), WordFault>
 {
     for (i, b) in line.bytes.iter().enumerate() {
         if !is_printable(*b) {
-            return Err(WordFault::Byte(Spot { line: line.number, place: i + 1 }));
+            return Err(WordFault::Byte(Spot {
+                line: line.number,
+                place: i + 1,
+            }));
         }
     }
     Ok(())

@@ -33,7 +33,11 @@ fn next_word<'a>(line: Line<'a>, from: usize) -> Option<Word<'a>>
     while at < line.bytes.len() {
         if line.bytes[at] != SPACE {
             let end = piece_end(line.bytes, at, SPACE);
-            return Some(Word { bytes: &line.bytes[at..end], line: line.number, place: at + 1 });
+            return Some(Word {
+                bytes: &line.bytes[at..end],
+                line: line.number,
+                place: at + 1,
+            });
         }
         at += 1;
     }
@@ -68,7 +72,10 @@ impl<'a> Word<'a> {
     pub fn spot(self) -> Spot
         ensures { λ r. ⌜ r ≡ spotOf (wordOf (self .entry)) ⌝ }
     {
-        Spot { line: self.line, place: self.place }
+        Spot {
+            line: self.line,
+            place: self.place,
+        }
     }
 }
 
@@ -85,7 +92,11 @@ impl<'a> Line<'a> {
             }
             left -= 1;
         }
-        Word { bytes: &self.bytes[0..0], line: 0, place: 0 }
+        Word {
+            bytes: &self.bytes[0..0],
+            line: 0,
+            place: 0,
+        }
     }
 
     pub fn count_words(self) -> usize

@@ -6,9 +6,9 @@
 // classify  which form a word has
 // fault     what can be wrong with the words of a line
 // checks    the search for such a fault
-pub mod position;
-pub mod cut;
-pub mod token;
-pub mod classify;
-pub mod fault;
 pub mod checks;
+pub mod classify;
+pub mod cut;
+pub mod fault;
+pub mod position;
+pub mod token;

@@ -32,9 +32,16 @@ impl Draft {
         Draft {
             attributes: Bounded::new(Attribute { name, size: 0 }),
             rights: Bounded::new(name),
-            objects: Bounded::new(Object { name, values: Bounded::new(None) }),
+            objects: Bounded::new(Object {
+                name,
+                values: Bounded::new(None),
+            }),
             policies: Policies::new(),
-            queries: Bounded::new(Query { subject: 0, object: 0, right: 0 }),
+            queries: Bounded::new(Query {
+                subject: 0,
+                object: 0,
+                right: 0,
+            }),
         }
     }
 
@@ -59,18 +66,11 @@ impl Draft {
         self.objects.as_slice()
     }
 
-    pub fn policies(&self) -> &[Policy]
+    pub(crate) fn policies(&self) -> &[Policy]
         ensures list { λ r. ⌜ map policyOf (now r) ≡ draftOf (now (self .entry)) .policies ⌝ }
         ensures few { λ r. ⌜ length (now r) ≤ 32 ⌝ }
     {
         self.policies.as_slice()
-    }
-
-    pub fn queries(&self) -> &[Query]
-        ensures list { λ r. ⌜ now r ≡ draftOf (now (self .entry)) .queries ⌝ }
-        ensures few { λ r. ⌜ length (now r) ≤ 16 ⌝ }
-    {
-        self.queries.as_slice()
     }
 
     // Whether there may be one entry more of this kind; clauses count in the policy opened last.

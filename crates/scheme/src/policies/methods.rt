@@ -35,7 +35,10 @@ fn fill(policy: &mut Policy, clause: Clause) -> bool
 fn without_clauses(name: Name, right: u32) -> Policy
     ensures { λ r. ⌜ policyOf r ≡ opened (items name) right ⌝ }
 {
-    let none = Term { party: Party::Subject, attribute: 0 };
+    let none = Term {
+        party: Party::Subject,
+        attribute: 0,
+    };
     Policy {
         name,
         right,
@@ -50,7 +53,10 @@ impl Policies {
         ensures empty { λ r. ⌜ policiesOf r ≡ [] ⌝ }
     {
         let filler = without_clauses(Bounded::new(0), 0);
-        Policies { rows: [filler; MAX_POLICIES], len: 0 }
+        Policies {
+            rows: [filler; MAX_POLICIES],
+            len: 0,
+        }
     }
 
     pub(crate) fn as_slice(&self) -> &[Policy]

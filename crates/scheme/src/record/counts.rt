@@ -7,6 +7,7 @@ ghost use Rattle.scheme.specs.Drafts.{draftOf};
 use crate::draft::Draft;
 
 pub(crate) const MAX_STATES: u64 = 1_048_576;
+
 const CAP: u64 = 1_048_577;
 
 // A product, or CAP where it is greater.

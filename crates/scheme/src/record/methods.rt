@@ -18,7 +18,10 @@ impl Scheme {
     pub fn bare() -> Scheme
         ensures { λ r. ⌜ schemeOf r ≡ bareModel ⌝ }
     {
-        Scheme { draft: Draft::new(), states: 1 }
+        Scheme {
+            draft: Draft::new(),
+            states: 1,
+        }
     }
 
     // A draft as a scheme, or none where it has more states than a scheme may have.
@@ -29,14 +32,10 @@ impl Scheme {
         if states > MAX_STATES {
             return None;
         }
-        Some(Scheme { draft, states: states as u32 })
-    }
-
-    // What the scheme declares.
-    pub fn draft(&self) -> &Draft
-        ensures { λ r. ⌜ draftOf (now r) ≡ schemeOf (now (self .entry)) ⌝ }
-    {
-        &self.draft
+        Some(Scheme {
+            draft,
+            states: states as u32,
+        })
     }
 
     pub fn states(&self) -> u32

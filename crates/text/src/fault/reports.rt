@@ -1,22 +1,8 @@
 // Number, line and place of each fault.
 ghost use mathlib.Core.Path.{_≡_};
-ghost use Rattle.text.specs.Faults.{lineReport, schemeReport};
-use super::LineFault;
+ghost use Rattle.text.specs.Faults.{schemeReport};
 use super::SchemeFault;
 use words::fault::Report;
-
-impl LineFault {
-    pub fn report(self) -> Report
-        ensures { λ r. ⌜ r ≡ lineReport self ⌝ }
-    {
-        match self {
-            LineFault::OfWords(fault) => fault.report(),
-            LineFault::Kind(spot) => Report::at(10, spot),
-            LineFault::Count(spot) => Report::at(11, spot),
-            LineFault::Form(spot) => Report::at(12, spot),
-        }
-    }
-}
 
 impl SchemeFault {
     pub fn report(self) -> Report

@@ -9,7 +9,11 @@ impl Report {
     pub fn at(number: u32, spot: Spot) -> Report
         ensures { λ r. ⌜ r ≡ reportAt number spot ⌝ }
     {
-        Report { number, line: spot.line, place: spot.place }
+        Report {
+            number,
+            line: spot.line,
+            place: spot.place,
+        }
     }
 }
 
@@ -18,7 +22,11 @@ impl WordFault {
         ensures { λ r. ⌜ r ≡ wordReport self ⌝ }
     {
         match self {
-            WordFault::LongText => Report { number: 4, line: 0, place: 0 },
+            WordFault::LongText => Report {
+                number: 4,
+                line: 0,
+                place: 0,
+            },
             WordFault::Byte(spot) => Report::at(1, spot),
             WordFault::LongWord(spot) => Report::at(2, spot),
         }

@@ -1,6 +1,4 @@
-use mathlib.Core.Path.{ap}
 use native.Mathlib.Omega.{arith}
-use lib.ListN.{length}
 use Rattle.words.specs.Positions.{wordOf}
 use Rattle.words.specs.Cuts.{comingWords, lineWords}
 use Rattle.words.proofs.Turns.{item-passes}
@@ -13,6 +11,7 @@ loop-word-again c =
     let m = draftOf (c .args .draft .now) in
     let ws = lineWords (c .args .line) in
     let later = comingWords (c .next .last .self) in
-    let taken = c .in-Some .ensures tt .0 in
-    (item-passes (nameCheck m (c .args .kind) ws) (rightNames m (c .args .kind) ws) (c .loop-word .index) (comingWords (c .loop-word .words)) later (wordOf (c .in-Some .word)) (c .loop-word .inv .0) taken (c .in-Continue-check-name .ensures tt),
-     omega (arith, ap length taken))
+    let next = c .in-Some .ensures tt in (
+      item-passes (nameCheck m (c .args .kind) ws) (rightNames m (c .args .kind) ws) (c .loop-word .index) (comingWords (c .loop-word .words)) later (wordOf (c .in-Some .word)) (c .loop-word .inv .0) (next .0) (c .in-Continue-check-name .ensures tt),
+      omega (arith, next .1, c .loop-word .inv .1),
+    )

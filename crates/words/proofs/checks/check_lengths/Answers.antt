@@ -17,4 +17,4 @@ loop-word-again c =
     let later = comingWords (c .next .last .self) in
     from-any (lengthCheck 0) 0 1 later
     ∙ item-passes lengthCheck _ 0 (comingWords (c .loop-word .words)) later (wordOf word) (c .loop-word .inv) (c .in-Some .ensures tt .0)
-      (sym (ap (λ t. cond t (Ok tt) (Err (LongWord (spotOf (wordOf word))))) (le-leb (length (word .bytes .now)) 17 (omega arith))))
+    (sym (ap (λ t. cond t (Ok tt) (Err (LongWord (spotOf (wordOf word))))) (le-leb (length (word .bytes .now)) 17 (omega arith))))

@@ -1,0 +1,4 @@
+pub mod Kinds
+pub mod Roles
+pub mod Faults
+pub mod Lines
