@@ -3,7 +3,7 @@
 docs/TEXT.md and docs/REFUSALS.md.
 
     cases.py [DIRECTORY]    checks every case against the reference program annex.py; then writes the
-                            files stdin and stdout into DIRECTORY (default: crates_cases)
+                            files stdin and stdout into DIRECTORY (default: crates/reader_cases)
 
 The files hold CASES and not LONG_CASES. stdin has for each case the length of the text in decimal, byte 10,
 the text, byte 10; stdout has for each case its outcome as one line.
@@ -467,7 +467,7 @@ def main(arguments):
     if count:
         sys.exit(f"{count} cases differ")
     print(f"{len(CASES)} cases and {len(LONG_CASES)} long cases, all as expected")
-    write_files(Path(arguments[0]) if arguments else Path(__file__).resolve().parent.parent / "crates_cases")
+    write_files(Path(arguments[0]) if arguments else Path(__file__).resolve().parent.parent / "crates/reader_cases")
 
 
 if __name__ == "__main__":
