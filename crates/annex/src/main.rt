@@ -1,6 +1,6 @@
 // Reads a scheme text from standard input and prints its report.
 use input::read_up_to;
-use report::headline::Headline;
+use report::headline::HeadlineDisplay;
 use report::headline_of;
 use std::io;
 
@@ -10,15 +10,8 @@ const ENOUGH: usize = 65_536;
 fn run(rt: &LibcRuntime) -> io::Result<()> {
     let mut buffer = [0u8; ENOUGH];
     let len = read_up_to(&mut rt.stdin(), &mut buffer)?;
-    match headline_of(&buffer[0..len]) {
-        Headline::Accepted(states, moves) => println!(rt, "scheme {states} {moves}"),
-        Headline::Refused(report) => {
-            let number = report.number;
-            let line = report.line;
-            let place = report.place;
-            println!(rt, "refused {number} {line} {place}")
-        }
-    }
+    let headline = headline_of(&buffer[0..len]);
+    println!(rt, "{headline}")
 }
 
 fn main(rt: LibcRuntime) -> io::Result<()> {

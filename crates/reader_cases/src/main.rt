@@ -5,7 +5,7 @@ ghost use Prim.Native.Nat.{_+_, _<_, _≤_};
 ghost use lib.ListN.{length};
 ghost use Rattle.std.specs.Options.{Cases};
 use input::read_up_to;
-use report::headline::Headline;
+use report::headline::HeadlineDisplay;
 use report::headline_of;
 use std::io;
 
@@ -36,18 +36,6 @@ fn next_text(bytes: &[u8], at: usize) -> Option<Span>
     None
 }
 
-fn print_headline(rt: &LibcRuntime, text: &[u8]) -> io::Result<()> {
-    match headline_of(text) {
-        Headline::Accepted(states, moves) => println!(rt, "scheme {states} {moves}"),
-        Headline::Refused(report) => {
-            let number = report.number;
-            let line = report.line;
-            let place = report.place;
-            println!(rt, "refused {number} {line} {place}")
-        }
-    }
-}
-
 fn run(rt: &LibcRuntime) -> io::Result<()> {
     let mut buffer = [0u8; 262_144];
     let len = read_up_to(&mut rt.stdin(), &mut buffer)?;
@@ -56,7 +44,8 @@ fn run(rt: &LibcRuntime) -> io::Result<()> {
     while let Some(text) = next_text(bytes, at) {
         let from = text.from;
         let to = text.to;
-        print_headline(rt, &bytes[from..to])?;
+        let headline = headline_of(&bytes[from..to]);
+        println!(rt, "{headline}")?;
         at = to + 1;
     }
     Ok(())

@@ -1,0 +1,2 @@
+pub mod Denials
+pub mod Replays

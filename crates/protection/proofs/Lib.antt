@@ -1,0 +1,4 @@
+pub mod LowestLaws
+pub mod Labelled
+pub mod HistoryLaws
+pub mod Promised

@@ -1,0 +1,9 @@
+pub mod Permissions
+pub mod Systems
+pub mod Meaning
+pub mod Refusals
+pub mod Answers
+pub mod Analysis
+pub mod Lowest
+pub mod Histories
+pub mod Safety

@@ -1,0 +1,12 @@
+pub mod Basics
+pub mod Invariant
+pub mod Outcomes
+pub mod Steps
+pub mod Paths
+pub mod Marks
+pub mod Turns
+pub mod Taken
+pub mod Witness
+pub mod Whole
+pub mod Reached
+pub mod Law
