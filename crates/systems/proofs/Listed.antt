@@ -1,14 +1,14 @@
 -- A loop that looks for a permission in a list, and one lock more.
 use mathlib.Core.Path.{_≡_, refl, sym, ap, _∙_}
 use mathlib.Core.List.{List, [], _∷_, _++_}
-use mathlib.Core.Bool.{true, false}
+use mathlib.Core.Bool.{Bool, true, false, cond}
 use Prim.Native.Nat.{ℕ, zero, suc, _+_, _<_}
 use native.Mathlib.Omega.{arith}
-use lib.Dec.{leb}
-use lib.ListN.{length, take, set, getD}
+use lib.Dec.{leb, ltb}
+use lib.ListN.{length, take, getD}
 use Rattle.std.specs.declared.result.Result.the-variants.{Ok}
-use Rattle.std.proofs.shelf.Lists.{take-more, take-more-set, length-take-le}
-use Rattle.std.proofs.shelf.Tests.{lt-leb, or-from, or-left, or-right, or-parts}
+use Rattle.std.proofs.shelf.Lists.{take-more, length-push}
+use Rattle.std.proofs.shelf.Tests.{lt-leb, ltb-true, or-from, or-left, or-right, or-parts}
 use Rattle.protection.specs.declared.permission.Permission.{Permission}
 use Rattle.protection.specs.Permissions.{same, within}
 use Rattle.protection.specs.Systems.{Labels}
@@ -31,16 +31,16 @@ listed-found [] i d p h here = absurd (omega arith)
 listed-found (x ∷ xs) zero d p h here = or-left (same x p) (is-listed xs p) here
 listed-found (x ∷ xs) (suc i) d p h here = or-right (same x p) (is-listed xs p) (listed-found xs i d p (omega arith) here)
 
-pub record Added (labels : Labels) (xs : List Permission) (n : ℕ) (p : Permission) : Type 0 where
-  pub answer : Ok (n + 1) ≡ lock-answer labels (take n xs) p
-  pub after : take (n + 1) (set xs n p) ≡ locks-after labels (take n xs) p
+-- a lock that found room
+pub record Added (labels : Labels) (xs ys : List Permission) (p : Permission) : Type 0 where
+  pub answer : Ok (length ys) ≡ lock-answer labels xs p
+  pub after : ys ≡ locks-after labels xs p
 
-pub added : (labels : Labels) (xs : List Permission) (n : ℕ) (p : Permission) → length xs ≡ 16 → n < 16
-    → within (labels .objects) (labels .rights) p ≡ true → is-listed (take n xs) p ≡ false → Added labels xs n p
-added labels xs n p long few inside new =
-    let size : length (take n xs) ≡ n = length-take-le n xs (omega arith) in
-    let room : leb 16 (length (take n xs)) ≡ false = lt-leb 16 (length (take n xs)) (omega arith) in
+pub added : (labels : Labels) (xs ys : List Permission) (p : Permission) (room : Bool) → within (labels .objects) (labels .rights) p ≡ true → is-listed xs p ≡ false → room ≡ ltb (length xs) 16 → room ≡ true → ys ≡ cond room (xs ++ (p ∷ [])) xs → Added labels xs ys p
+added labels xs ys p room inside new is free pushed =
+    let few : leb 16 (length xs) ≡ false = lt-leb 16 (length xs) (ltb-true (length xs) 16 (sym is ∙ free)) in
+    let grown : ys ≡ xs ++ (p ∷ []) = pushed ∙ ap (λ t. cond t (xs ++ (p ∷ [])) xs) free in
     record {
-      answer = simp (inside, new, room) (ap (λ (k : ℕ). Ok (k + 1)) (sym size));
-      after = simp (inside, new, room) (take-more-set xs n p (omega arith));
+      answer = simp (inside, new, few) (ap (λ l. Ok (length l)) grown ∙ ap Ok (length-push xs p));
+      after = simp (inside, new, few) grown;
     }

@@ -1,7 +1,6 @@
 // The lock list as a protection system, and the call that adds to it.
 ghost use mathlib.Core.Path.{_≡_};
 ghost use mathlib.Core.List.{[]};
-ghost use lib.ListN.{length};
 ghost use Rattle.protection.specs.Refusals.{numbered};
 ghost use Rattle.systems.specs.Refusals.{lock-refusal-values};
 ghost use Rattle.systems.specs.Locks.{is-listed, is-locked, locked-walk, lock-answer, locks-after};
@@ -9,6 +8,7 @@ ghost use Rattle.systems.specs.LockLists.{locks-of};
 ghost use Rattle.systems.specs.LockLaws.{locked-bounds};
 use super::lock::LockList;
 use super::refusals::LockRefusal;
+use bounded::Bounded;
 use protection::Permission;
 use protection::System;
 use protection::permission::PermissionPartialEq;
@@ -27,17 +27,15 @@ impl<S: System> LockList<S> {
         };
         LockList {
             system,
-            locks: [unused; 16],
-            count: 0,
+            locks: Bounded::new(unused),
         }
     }
 
     // The permissions that are locked.
     pub fn listed(&self) -> &[Permission]
-        ensures value { λ r. ⌜ now r ≡ locks-of (now (self .entry)) ⌝ }
-        ensures len { λ r. ⌜ length (now r) ≡ now (self .entry) .count ⌝ }
+        ensures { λ r. ⌜ now r ≡ locks-of (now (self .entry)) ⌝ }
     {
-        &self.locks[0..self.count as usize]
+        self.locks.as_slice()
     }
 
     // Locks a permission, unless it is locked already, and answers how many are.
@@ -50,14 +48,12 @@ impl<S: System> LockList<S> {
             return Err(LockRefusal::OutOfCounts);
         }
         if has_lock(self.listed(), p) {
-            return Ok(self.count);
+            return Ok(self.listed().len() as u32);
         }
-        if self.count >= 16 {
+        if !self.locks.push(p) {
             return Err(LockRefusal::Full);
         }
-        self.locks[self.count as usize] = p;
-        self.count += 1;
-        Ok(self.count)
+        Ok(self.listed().len() as u32)
     }
 }
 
