@@ -1,5 +1,6 @@
 #!/usr/bin/env python3
-"""Table systems, lock lists, analysis and monitor, written from the rules in docs/.
+"""Table systems, lock lists, analysis and monitor, by the rules in docs/. It takes nothing from the
+code that it is compared with, but has the same author.
 
 Makes the cases of crates/table_cases and what the program must print:
 
