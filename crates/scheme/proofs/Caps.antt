@@ -1,5 +1,5 @@
 -- Products that are cut off at a bound L.
-use Rattle.std.proofs.Common.{◌≡◌, ℕ, zero, suc, ◌+◌, ◌*◌, ◌^◌, ◌<◌, ◌≤◌, min, List, [], ◌∷◌, map, length, get_or, drop, sym, refl, ap, ◌∙◌, ⊎_elim, mul_assoc, mul_comm, mul-le-mul, pow-suc, mul-zero, mul-one, add-one, arith}
+use Rattle.std.proofs.Common.{◌≡◌, ℕ, zero, suc, ◌+◌, ◌*◌, ◌^◌, ◌<◌, ◌≤◌, min, List, map, length, get_or, drop, sym, ap, ◌∙◌, ⊎_elim, mul_assoc, mul_comm, mul-le-mul, pow-suc, mul-zero, mul-one, add-one, arith}
 use native.Mathlib.Nat.{min-eq_left, min-eq_right, min-le_right, pow-zero}
 use Rattle.std.proofs.lemmas.List.{at_drop_more, at_drop_all}
 use Rattle.std.proofs.lemmas.Bool.{cases_lt}

@@ -1,5 +1,5 @@
 -- The sizes of attributes that stand for others.
-use Rattle.std.proofs.Common.{◌≡◌, ℕ, List, map, sym, ap, ◌∙◌}
+use Rattle.std.proofs.Common.{◌≡◌, List, map, sym, ap, ◌∙◌}
 use Rattle.std.proofs.lemmas.Simd.{map-map}
 use Rattle.scheme.specs.declared.entries.Attribute.{Attribute}
 use Rattle.scheme.specs.Models.{AttributeModel, SchemeModel, attribute_of}

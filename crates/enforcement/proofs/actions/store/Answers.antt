@@ -7,6 +7,6 @@ use Rattle.enforcement.proofs.actions.store.Goals as goal
 pub returns : goal.returns
 returns c =
     let ks = sizes_in c.args.codes.now in
-    ap Some c.with-code.ensures
+    ap Some c.with_code.ensures
     ∙ store_is ks c.args.term c.args.pair c.args.value c.in-ok-code.code c.requires
-    (c.in-ok-code.ensures ∙ ap (λ n. updated_code ks n c.args.term.attribute c.args.value) c.code-in.ensures)
+    (c.in-ok-code.ensures ∙ ap (λ n. updated_code ks n c.args.term.attribute c.args.value) c.code_in.ensures)

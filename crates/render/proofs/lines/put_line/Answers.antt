@@ -9,13 +9,13 @@ pub returns-in-err-put : goal.returns-in-err-put
 returns-in-err-put c =
     at_exit _ _ _ _ c.from-residual.ensures.0 (short_first _ _ c.args.head.now _ c.in-err-put.ensures)
 
-pub returns-in-err-put-words : goal.returns-in-err-put-words
-returns-in-err-put-words c =
-    at_exit _ _ _ _ c.from-residual-in-err-put-words.ensures.0
+pub returns-in-err-put_words : goal.returns-in-err-put_words
+returns-in-err-put_words c =
+    at_exit _ _ _ _ c.from-residual-in-err-put_words.ensures.0
     (short_then _ _ _ c.args.head.now _ c.in-ok-put.ensures
-    (short_first _ _ (flat_map spaced (map word_of c.args.words.now)) (10 ∷ []) c.in-err-put-words.ensures))
+    (short_first _ _ (flat_map spaced (map word_of c.args.words.now)) (10 ∷ []) c.in-err-put_words.ensures))
 
 pub returns : goal.returns
 returns c =
     appended_then _ _ _ _ c.args.head.now _ c.in-ok-put.ensures
-    (appended_then _ _ _ _ (flat_map spaced (map word_of c.args.words.now)) (10 ∷ []) c.in-ok-put-words.ensures c.end-line.ensures)
+    (appended_then _ _ _ _ (flat_map spaced (map word_of c.args.words.now)) (10 ∷ []) c.in-ok-put_words.ensures c.end_line.ensures)

@@ -11,4 +11,4 @@ returns-in-err-put c =
 
 pub returns : goal.returns
 returns c =
-    appended_then _ _ _ _ (32 ∷ []) (word_of c.args.word) c.in-ok-put.ensures c.put-word.ensures
+    appended_then _ _ _ _ (32 ∷ []) (word_of c.args.word) c.in-ok-put.ensures c.put_word.ensures

@@ -1,4 +1,4 @@
-use Rattle.std.proofs.Common.{◌≡◌, ℕ, ◌≤◌, List, Decides, subst, arith, rules}
+use Rattle.std.proofs.Common.{◌≡◌, ℕ, List, Decides, subst, arith}
 use Rattle.std.proofs.lemmas.Slice.Eq.{slice_eq-Decides}
 use Rattle.scheme.proofs.Search.{found_here, found_later, found_none}
 use Rattle.scheme.proofs.names.find.Given as given

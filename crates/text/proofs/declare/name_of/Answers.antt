@@ -7,6 +7,6 @@ use Rattle.text.proofs.declare.name_of.Goals as goal
 pub returns-in-Name : goal.returns-in-Name
 returns-in-Name c =
     let is = c.in-Name.ensures.form in
-    ap items c.unwrap-or.ensures
-    ∙ name_copied items c.from-slice.result c.new.result c.args.word.bytes.now c.in-Name.name.bytes.now is c.from-slice.ensures
+    ap items c.unwrap_or.ensures
+    ∙ name_copied items c.from_slice.result c.new.result c.args.word.bytes.now c.in-Name.name.bytes.now is c.from_slice.ensures
     ∙ ap name_form is

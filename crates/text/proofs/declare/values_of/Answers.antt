@@ -15,7 +15,7 @@ loop-attribute-preserved c =
     let slice = c.attributes-attribute-end.result.now in
     let h : i < length al = omega (arith, count_of attribute_of slice al c.attributes-attribute-end.ensures.list) in
     let few : i < 4 = omega (arith, c.attributes-attribute-end.ensures.few) in
-    values_more al (line_words c.args.line) i (items c.loop-attribute.values) c.loop-attribute.invariant.0 (items c.push.new.self) c.value-of.result c.push.result h few c.loop-attribute.invariant.1 (c.value-of.ensures ∙ ap value_in c.word.ensures) c.push.ensures.room c.push.ensures.after
+    values_more al (line_words c.args.line) i (items c.loop-attribute.values) c.loop-attribute.invariant.0 (items c.push.new.self) c.value_of.result c.push.result h few c.loop-attribute.invariant.1 (c.value_of.ensures ∙ ap value_in c.word.ensures) c.push.ensures.room c.push.ensures.after
 
 pub returns : goal.returns
 returns c =

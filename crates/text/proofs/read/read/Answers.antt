@@ -3,7 +3,7 @@ use Rattle.text.proofs.read.read.Goals as goal
 
 pub returns : goal.returns
 returns c = record {
-  result = c.read-text.ensures.result;
-  kept = c.read-text.ensures.kept;
-  lawful = reading_is_lawful c.args.text.now _ c.read-text.ensures.result;
+  result = c.read_text.ensures.result;
+  kept = c.read_text.ensures.kept;
+  lawful = reading_is_lawful c.args.text.now _ c.read_text.ensures.result;
 }

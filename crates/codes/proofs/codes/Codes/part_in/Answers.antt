@@ -28,11 +28,11 @@ returns c =
     let a = c.args.attribute in
     record {
       value =
-          ap (λ n. n / get_or self.weights a 0 % (c.size-at.result + 1)) c.saturating-sub.ensures
-          ∙ ap (λ n. (c.args.code - 1) / n % (c.size-at.result + 1)) (self.weighed a c.if-at-ge4.false)
-          ∙ ap (λ n. (c.args.code - 1) / weight (sizes_in self) a % (n + 1)) c.size-at.ensures
+          ap (λ n. n / get_or self.weights a 0 % (c.size_at.result + 1)) c.saturating_sub.ensures
+          ∙ ap (λ n. (c.args.code - 1) / n % (c.size_at.result + 1)) (self.weighed a c.if-at-ge4.false)
+          ∙ ap (λ n. (c.args.code - 1) / weight (sizes_in self) a % (n + 1)) c.size_at.ensures
           ∙ part_is (sizes_in self) (c.args.code - 1) a;
       small =
-          let p : 0 < c.size-at.result + 1 = omega arith in
-          omega (arith, mod_below (c.saturating-sub.result / get_or self.weights a 0) (c.size-at.result + 1) p);
+          let p : 0 < c.size_at.result + 1 = omega arith in
+          omega (arith, mod_below (c.saturating_sub.result / get_or self.weights a 0) (c.size_at.result + 1) p);
     }

@@ -11,12 +11,12 @@ returns-then-at-ge4 c =
     updated_past (sizes_in self) c.args.code c.args.attribute c.args.value (omega arith) (omega (arith, self.counted))
     (omega (arith, length_items 4 self.sizes)) (sym c.if-not-fits.ensures)
 
-changed : (c : goal.After-part-of-new)
-    → Exchanged (sizes_in c.args.self.now) c.args.code c.args.attribute c.args.value c.part-in-old.result (get_or c.args.self.now.weights c.args.attribute 0) c.part-of-new.result
+changed : (c : goal.After-part_of-new)
+    → Exchanged (sizes_in c.args.self.now) c.args.code c.args.attribute c.args.value c.part_in-old.result (get_or c.args.self.now.weights c.args.attribute 0) c.part_of-new.result
 changed c =
     let self = c.args.self.now in
     exchanged (sizes_in self) c.args.code c.args.attribute c.args.value _ _ _ (omega arith) (omega (arith, self.counted))
-    (sym c.if-not-fits.ensures) c.part-in-old.ensures.value (self.weighed c.args.attribute c.if-at-ge4.false) c.part-of-new.ensures
+    (sym c.if-not-fits.ensures) c.part_in-old.ensures.value (self.weighed c.args.attribute c.if-at-ge4.false) c.part_of-new.ensures
 
 pub overflow-mul-result : goal.overflow-mul-result
 overflow-mul-result c = omega (arith, (changed c).within)

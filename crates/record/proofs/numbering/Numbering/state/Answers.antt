@@ -43,8 +43,8 @@ loop-object-preserved c =
     let grown : state_of c.push.new.self ≡ state_of c.loop-object.state ++ object_of object ∷ [] =
     ap (λ l. map object_of l) (pushed before (items c.push.new.self) object 8 c.push.result free c.push.ensures.room c.push.ensures.after)
     ∙ map_push object_of before object in (
-      ap (λ n. state_of c.push.new.self ++ state_from ks (d.objects - (c.loop-object.-object + 1)) (rest / n)) c.radix-radix.ensures
-          ∙ state_more ks d.objects c.loop-object.-object rest (state_of c.loop-object.state) (state_of c.push.new.self) _ (object_of object) c.loop-object-test.true is grown c.loop-object.invariant.0,
+      ap (λ n. state_of c.push.new.self ++ state_from ks (d.objects - (c.loop-object._object + 1)) (rest / n)) c.radix-radix.ensures
+          ∙ state_more ks d.objects c.loop-object._object rest (state_of c.loop-object.state) (state_of c.push.new.self) _ (object_of object) c.loop-object-test.true is grown c.loop-object.invariant.0,
       length_pushed before (items c.push.new.self) object 8 c.push.result free c.push.ensures.room c.push.ensures.after
           ∙ ap (λ n. n + 1) c.loop-object.invariant.1,
     )
@@ -52,5 +52,5 @@ loop-object-preserved c =
 pub returns : goal.returns
 returns c =
     let d = dimensions_of c.args.self.now in
-    ap Some (state_all d.sizes d.objects c.loop-object.-object c.loop-object.rest (state_of c.loop-object.state) _ c.loop-object-test.false c.loop-object.invariant.0)
+    ap Some (state_all d.sizes d.objects c.loop-object._object c.loop-object.rest (state_of c.loop-object.state) _ c.loop-object-test.false c.loop-object.invariant.0)
     ∙ sym (cond-true _ _ _ (lt-ltb c.args.number (size_states d.sizes ^ d.objects) (omega (arith, c.args.self.now.counted))))

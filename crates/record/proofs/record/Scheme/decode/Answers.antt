@@ -14,5 +14,5 @@ returns c =
     let x = c.args.number in
     record {
       value = c.state.ensures ∙ ap (λ (d : Dimensions). cond (ltb x (size_states d.sizes ^ d.objects)) (Some (state_from d.sizes d.objects x)) None) (dimensions c.args.self.now);
-      one-to-one = corresponds (sizes_of m) (object_count m);
+      one_to_one = corresponds (sizes_of m) (object_count m);
     }

@@ -14,5 +14,5 @@ returns c =
     let t = state_of c.args.state.now in
     record {
       value = c.number.ensures ∙ ap (λ (d : Dimensions). cond (state_fits d.sizes d.objects t) (Some (number d.sizes t)) None) (dimensions c.args.self.now);
-      one-to-one = corresponds (sizes_of m) (object_count m);
+      one_to_one = corresponds (sizes_of m) (object_count m);
     }

@@ -27,16 +27,16 @@ returns-in-err-numbering c =
     ap (option_map scheme_of) c.from-residual.ensures
     ∙ sym (cond-false _ _ _ (and_right _ _
     (ap (λ k. within_bounds (sizes_of m) k) (sym count)
-    ∙ ap (λ ks. within_bounds ks n) (sym c.sizes-in.ensures)
+    ∙ ap (λ ks. within_bounds ks n) (sym c.sizes_in.ensures)
     ∙ none_cond _ _ c.in-err-numbering.ensures)))
 
 pub returns-in-err-start : goal.returns-in-err-start
 returns-in-err-start c =
     let m = draft_of c.args.draft in
     let count : length c.objects-objects.result.now ≡ object_count m = count_of object_of _ _ c.objects-objects.ensures.list in
-    let is = built m _ _ (dimensions_of c.in-ok-numbering.numbering) c.sizes-in.ensures count c.in-ok-numbering.ensures in
+    let is = built m _ _ (dimensions_of c.in-ok-numbering.numbering) c.sizes_in.ensures count c.in-ok-numbering.ensures in
     absurd (none_some (number (sizes_of m) (start_state m))
-    (c.in-err-start.ensures ∙ start_number m (dimensions_of c.in-ok-numbering.numbering) (state_of c.start-in.result) (sym c.if-not-is-well-formed.ensures) is c.start-in.ensures))
+    (c.in-err-start.ensures ∙ start_number m (dimensions_of c.in-ok-numbering.numbering) (state_of c.start_in.result) (sym c.if-not-is_well_formed.ensures) is c.start_in.ensures))
 
 pub invariant-of-result : goal.invariant-of-result
 invariant-of-result c =
@@ -44,9 +44,9 @@ invariant-of-result c =
     let n = length c.objects-objects.result.now in
     let count : n ≡ object_count m = count_of object_of _ _ c.objects-objects.ensures.list in
     let policies : length c.policies-policies.result.now ≡ length m.policies = count_of policy_of _ _ c.policies-policies.ensures.list in
-    let formed = sym c.if-not-is-well-formed.ensures in
-    let is = built m _ _ (dimensions_of c.in-ok-numbering.numbering) c.sizes-in.ensures count c.in-ok-numbering.ensures in
-    let number_is = c.in-ok-start.ensures ∙ start_number m (dimensions_of c.in-ok-numbering.numbering) (state_of c.start-in.result) formed is c.start-in.ensures in
+    let formed = sym c.if-not-is_well_formed.ensures in
+    let is = built m _ _ (dimensions_of c.in-ok-numbering.numbering) c.sizes_in.ensures count c.in-ok-numbering.ensures in
+    let number_is = c.in-ok-start.ensures ∙ start_number m (dimensions_of c.in-ok-numbering.numbering) (state_of c.start_in.result) formed is c.start_in.ensures in
     let start_is : c.in-ok-start.start ≡ number (sizes_of m) (start_state m) = cc in (
       formed,
       (
@@ -56,7 +56,7 @@ invariant-of-result c =
           (
             start_is,
             (
-              c.moves-of-moves.ensures
+              c.moves_of-moves.ensures
                   ∙ ap (λ k. map (move_at k) (range_with_len 0 (k * k * length c.policies-policies.result.now))) count
                   ∙ ap (λ k. map (move_at (object_count m)) (range_with_len 0 (object_count m * object_count m * k))) policies,
               (

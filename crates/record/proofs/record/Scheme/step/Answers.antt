@@ -5,6 +5,6 @@ use Rattle.record.proofs.record.Scheme.step.Goals as goal
 pub returns : goal.returns
 returns c =
     record {
-      value = c.next-state.ensures;
-      agrees = steps_agree (scheme_of c.args.self.now) c.args.state c.args.mv c.next-state.result c.next-state.ensures;
+      value = c.next_state.ensures;
+      agrees = steps_agree (scheme_of c.args.self.now) c.args.state c.args.mv c.next_state.result c.next_state.ensures;
     }

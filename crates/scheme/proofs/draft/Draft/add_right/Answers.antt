@@ -1,5 +1,4 @@
 use Rattle.bounded.specs.Items.{items}
-use Rattle.scheme.specs.Models.{SchemeModel}
 use Rattle.scheme.specs.Drafts.{draft_of}
 use Rattle.scheme.proofs.Lists.{room_of, pushed}
 use Rattle.scheme.proofs.draft.Draft.add_right.Goals as goal

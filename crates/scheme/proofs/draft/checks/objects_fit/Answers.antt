@@ -6,15 +6,15 @@ use Rattle.scheme.specs.WellFormed.{objects_fit}
 use Rattle.scheme.proofs.Fits.{object_one, item_fails, item_passes}
 use Rattle.scheme.proofs.draft.checks.objects_fit.Goals as goal
 
-pub returns-then-not-values-fit : goal.returns-then-not-values-fit
-returns-then-not-values-fit c =
-    let one = object_one (map (λ (a : Attribute). a.size) c.args.attributes.now) c.args.objects.now c.loop-object.object-index c.object-item.result c.as-slice.result.now c.values-fit.result c.loop-object-test.true c.object-item.is c.as-slice.ensures c.values-fit.ensures in
-    item_fails _ _ _ _ one c.loop-object.invariant c.if-not-values-fit.true
+pub returns-then-not-values_fit : goal.returns-then-not-values_fit
+returns-then-not-values_fit c =
+    let one = object_one (map (λ (a : Attribute). a.size) c.args.attributes.now) c.args.objects.now c.loop-object.object-index c.object-item.result c.as_slice.result.now c.values_fit.result c.loop-object-test.true c.object-item.is c.as_slice.ensures c.values_fit.ensures in
+    item_fails _ _ _ _ one c.loop-object.invariant c.if-not-values_fit.true
 
 pub loop-object-preserved : goal.loop-object-preserved
 loop-object-preserved c =
-    let one = object_one (map (λ (a : Attribute). a.size) c.args.attributes.now) c.args.objects.now c.loop-object.object-index c.object-item.result c.as-slice.result.now c.values-fit.result c.loop-object-test.true c.object-item.is c.as-slice.ensures c.values-fit.ensures in
-    item_passes _ _ _ _ one c.loop-object.invariant c.if-not-values-fit.false
+    let one = object_one (map (λ (a : Attribute). a.size) c.args.attributes.now) c.args.objects.now c.loop-object.object-index c.object-item.result c.as_slice.result.now c.values_fit.result c.loop-object-test.true c.object-item.is c.as_slice.ensures c.values_fit.ensures in
+    item_passes _ _ _ _ one c.loop-object.invariant c.if-not-values_fit.false
 
 pub returns : goal.returns
 returns c =

@@ -6,15 +6,15 @@ use Rattle.scheme.proofs.draft.checks.values_fit.Goals as goal
 pub returns-then-values-attributes : goal.returns-then-values-attributes
 returns-then-values-attributes c = sym (values_of_other_count (λ (a : Attribute). a.size) c.args.attributes.now c.args.values.now c.if-values-attributes.true)
 
-pub returns-then-not-value-fits : goal.returns-then-not-value-fits
-returns-then-not-value-fits c =
-    let one = value_one (λ (a : Attribute). a.size) c.args.attributes.now c.args.values.now c.loop-i.i c.index-attributes-i.result None c.value-fits.result c.loop-i-test.true (omega arith) c.index-attributes-i.is c.value-fits.ensures in
-    item_fails _ _ _ _ one c.loop-i.invariant c.if-not-value-fits.true
+pub returns-then-not-value_fits : goal.returns-then-not-value_fits
+returns-then-not-value_fits c =
+    let one = value_one (λ (a : Attribute). a.size) c.args.attributes.now c.args.values.now c.loop-i.i c.index-attributes-i.result None c.value_fits.result c.loop-i-test.true (omega arith) c.index-attributes-i.is c.value_fits.ensures in
+    item_fails _ _ _ _ one c.loop-i.invariant c.if-not-value_fits.true
 
 pub loop-i-preserved : goal.loop-i-preserved
 loop-i-preserved c =
-    let one = value_one (λ (a : Attribute). a.size) c.args.attributes.now c.args.values.now c.loop-i.i c.index-attributes-i.result None c.value-fits.result c.loop-i-test.true (omega arith) c.index-attributes-i.is c.value-fits.ensures in
-    item_passes _ _ _ _ one c.loop-i.invariant c.if-not-value-fits.false
+    let one = value_one (λ (a : Attribute). a.size) c.args.attributes.now c.args.values.now c.loop-i.i c.index-attributes-i.result None c.value_fits.result c.loop-i-test.true (omega arith) c.index-attributes-i.is c.value_fits.ensures in
+    item_passes _ _ _ _ one c.loop-i.invariant c.if-not-value_fits.false
 
 pub returns : goal.returns
 returns c =

@@ -9,4 +9,4 @@ use Rattle.record.proofs.record.system.SchemeWalk.moves.Goals as goal
 pub returns : goal.returns
 returns c =
     let m = scheme_of c.args.self.now in
-    ap length (c.as-slice.ensures ∙ c.args.self.now.listed) ∙ length-map-range_with_len (move_at (object_count m)) 0 (move_count m)
+    ap length (c.as_slice.ensures ∙ c.args.self.now.listed) ∙ length-map-range_with_len (move_at (object_count m)) 0 (move_count m)
