@@ -1,3 +1,4 @@
+#![tactic(auto)]
 // A line by its kind: which kind it is, what each of its words is, and whether they have the forms
 // that the kind asks.
 //

@@ -1,10 +1,10 @@
 -- A word that is a name has at most 15 bytes.
-use Rattle.std.proofs.Common.{◌≡◌, ℕ, ◌≤◌, Bool, true, false, cond, List, [], ◌∷◌, length, Some, None, Option, sym, refl, ap, ◌∙◌, arith}
+use Rattle.std.proofs.Common.{◌≡◌, ℕ, ◌≤◌, Bool, true, false, cond, List, [], ◌∷◌, length, Some, None, Option, refl, ap, arith}
 use Rattle.std.proofs.lemmas.Bool.{and_parts, leb-true}
 use Rattle.scheme.specs.declared.terms.Party.{Party}
 use Rattle.words.specs.declared.token.Operator.{Operator}
 use Rattle.words.specs.Forms.{is_name, number_in, term_in, operator_in}
-use Rattle.words.specs.Tokens.{Form, name, number, term, operator, other, operator_form, term_form, number_form, form_of}
+use Rattle.words.specs.Tokens.{Form, name, operator_form, term_form, number_form, form_of}
 
 is_name_short : (w : List ℕ) → is_name w ≡ true → length w ≤ 15
 is_name_short [] h = omega arith

@@ -1,8 +1,8 @@
 -- The first piece of a list of bytes.
-use Rattle.std.proofs.Common.{◌≡◌, ℕ, zero, suc, ◌+◌, ◌-◌, ◌^◌, ◌<◌, ◌≤◌, Bool, true, false, cond, eqb, List, [], ◌∷◌, length, get_or, take, drop, sym, refl, ap, ◌∙◌, subst, ⊎_elim, add-one, arith, length-drop}
+use Rattle.std.proofs.Common.{◌≡◌, ℕ, zero, suc, ◌+◌, ◌-◌, ◌^◌, ◌<◌, ◌≤◌, cond, List, [], ◌∷◌, length, get_or, take, drop, sym, ap, ◌∙◌, ⊎_elim, add-one, arith, length-drop}
 use Rattle.std.proofs.lemmas.List.{get_or-drop, drop-drop, drop_more, drop_all, length-take-le}
 use Rattle.std.proofs.lemmas.Bool.{cases_lt, eq-eqb, ne_eqb}
-use Rattle.words.specs.Positions.{PlainLine, PlainWord}
+use Rattle.words.specs.Positions.{PlainLine}
 use Rattle.words.specs.Cuts.{pieces, on_first, placed, words_from}
 
 pub piece_first : (sep : ℕ) (xs : List ℕ) (n : ℕ) → 0 < length xs → n ≤ length xs → ((k : ℕ) → k < n → get_or xs k 0 ≡ sep → ⊥) → (n < length xs → get_or xs n 0 ≡ sep) → pieces sep xs ≡ take n xs ∷ pieces sep (drop (suc n) xs)

@@ -1,3 +1,4 @@
+#![tactic(auto)]
 // From the bytes of a text to words and tokens that borrow them.
 //
 // position  lines and words, each with its place in the text

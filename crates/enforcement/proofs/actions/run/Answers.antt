@@ -6,15 +6,15 @@ use Rattle.enforcement.specs.Coded.{on_codes}
 use Rattle.enforcement.proofs.Simulation.{ran_more, ran_fails, ran_none}
 use Rattle.enforcement.proofs.actions.run.Goals as goal
 
-pub returns-in-err-pair : goal.returns-in-err-pair
-returns-in-err-pair c =
+pub returns-in_err-pair : goal.returns-in_err-pair
+returns-in_err-pair c =
     c.from-residual.ensures
-    ∙ ran_fails (sizes_in c.args.codes.now) c.args.actions.now c.loop-action.action-index _ c.loop-action.pair c.loop-action-test.true c.in-err-pair.ensures
+    ∙ ran_fails (sizes_in c.args.codes.now) c.args.actions.now c.loop-action.action-index _ c.loop-action.pair c.loop-action-test.true c.in_err-pair.ensures
     ∙ c.loop-action.invariant.0
 
 pub loop-action-preserved : goal.loop-action-preserved
 loop-action-preserved c =
-    let more = ran_more (sizes_in c.args.codes.now) c.args.actions.now c.loop-action.action-index _ c.loop-action.pair c.in-ok-pair.pair c.loop-action-test.true c.loop-action.invariant.1 c.in-ok-pair.ensures in
+    let more = ran_more (sizes_in c.args.codes.now) c.args.actions.now c.loop-action.action-index _ c.loop-action.pair c.in_ok-pair.pair c.loop-action-test.true c.loop-action.invariant.1 c.in_ok-pair.ensures in
     (more.0 ∙ c.loop-action.invariant.0, more.1)
 
 pub returns : goal.returns

@@ -8,5 +8,5 @@ pub returns : goal.returns
 returns c =
     let ks = sizes_in c.args.codes.now in
     ap Some c.with_code.ensures
-    ∙ store_is ks c.args.term c.args.pair c.args.value c.in-ok-code.code c.requires
-    (c.in-ok-code.ensures ∙ ap (λ n. updated_code ks n c.args.term.attribute c.args.value) c.code_in.ensures)
+    ∙ store_is ks c.args.term c.args.pair c.args.value c.in_ok-code.code c.requires
+    (c.in_ok-code.ensures ∙ ap (λ n. updated_code ks n c.args.term.attribute c.args.value) c.code_in.ensures)

@@ -10,6 +10,6 @@ loop-word-preserved c =
     let ws = line_words c.args.line in
     let later = coming_words c.next.new.self in
     let next = c.in-Some.ensures in (
-      item_passes (form_check c.args.kind ws) (right_forms c.args.kind ws) c.loop-word.index (coming_words c.loop-word.words) later (word_of c.in-Some.word) c.loop-word.invariant.0 next.0 c.in-ok-check_form.ensures,
+      item_passes (form_check c.args.kind ws) (right_forms c.args.kind ws) c.loop-word.index (coming_words c.loop-word.words) later (word_of c.in-Some.word) c.loop-word.invariant.0 next.0 c.in_ok-check_form.ensures,
       omega (arith, next.1, c.loop-word.invariant.1),
     )

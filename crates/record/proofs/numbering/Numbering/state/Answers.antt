@@ -21,12 +21,12 @@ loop-object-init c =
       ap length c.new-state.ensures,
     )
 
-pub returns-in-err-object : goal.returns-in-err-object
-returns-in-err-object c =
+pub returns-in_err-object : goal.returns-in_err-object
+returns-in_err-object c =
     let ks = (dimensions_of c.args.self.now).sizes in
     let r = c.radix-radix.result in
     let below : c.loop-object.rest % r < size_states ks = omega (arith, c.radix-radix.ensures, mod_below c.loop-object.rest r (omega (arith, c.radix-radix.ensures))) in
-    absurd (object_there ks (c.loop-object.rest % r) below c.in-err-object.ensures)
+    absurd (object_there ks (c.loop-object.rest % r) below c.in_err-object.ensures)
 
 pub loop-object-preserved : goal.loop-object-preserved
 loop-object-preserved c =
@@ -35,11 +35,11 @@ loop-object-preserved c =
     let r = c.radix-radix.result in
     let rest = c.loop-object.rest in
     let before = items c.loop-object.state in
-    let object = c.in-ok-object.object in
+    let object = c.in_ok-object.object in
     let below : rest % r < size_states ks = omega (arith, c.radix-radix.ensures, mod_below rest r (omega (arith, c.radix-radix.ensures))) in
     let free : length before < 8 = omega (arith, c.args.self.now.fits, c.loop-object.invariant.1) in
     let is : object_of object ≡ object_from ks (rest % size_states ks) =
-    object_known object_of ks (rest % r) object below c.in-ok-object.ensures ∙ ap (λ n. object_from ks (rest % n)) c.radix-radix.ensures in
+    object_known object_of ks (rest % r) object below c.in_ok-object.ensures ∙ ap (λ n. object_from ks (rest % n)) c.radix-radix.ensures in
     let grown : state_of c.push.new.self ≡ state_of c.loop-object.state ++ object_of object ∷ [] =
     ap (λ l. map object_of l) (pushed before (items c.push.new.self) object 8 c.push.result free c.push.ensures.room c.push.ensures.after)
     ∙ map_push object_of before object in (

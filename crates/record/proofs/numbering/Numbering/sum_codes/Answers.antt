@@ -10,19 +10,19 @@ use Rattle.record.proofs.numbering.Numbering.sum_codes.Goals as goal
 pub loop-at-init : goal.loop-at-init
 loop-at-init c = (refl, omega (arith, pow-zero (size_states (dimensions_of c.args.self.now).sizes)))
 
-pub returns-in-err-code : goal.returns-in-err-code
-returns-in-err-code c =
+pub returns-in_err-code : goal.returns-in_err-code
+returns-in_err-code c =
     c.from-residual.ensures
-    ∙ sum_unfit object_of (dimensions_of c.args.self.now).sizes c.args.objects.now c.loop-at.at c.loop-at.sum c.index-objects-at.result c.loop-at-test.true c.index-objects-at.is c.in-err-code.ensures
+    ∙ sum_unfit object_of (dimensions_of c.args.self.now).sizes c.args.objects.now c.loop-at.at c.loop-at.sum c.index-objects-at.result c.loop-at-test.true c.index-objects-at.is c.in_err-code.ensures
     ∙ c.loop-at.invariant.0
 
 more : (c : goal.After-sum·1)
-    → Summed object_of (dimensions_of c.args.self.now).sizes c.args.objects.now c.loop-at.at c.loop-at.sum c.index-objects-at.result c.loop-at-test.true c.index-objects-at.is c.in-ok-code.code (get_or c.args.self.now.places c.loop-at.at 0)
+    → Summed object_of (dimensions_of c.args.self.now).sizes c.args.objects.now c.loop-at.at c.loop-at.sum c.index-objects-at.result c.loop-at-test.true c.index-objects-at.is c.in_ok-code.code (get_or c.args.self.now.places c.loop-at.at 0)
 more c =
     sum_more object_of (dimensions_of c.args.self.now).sizes c.args.objects.now c.loop-at.at c.loop-at.sum c.index-objects-at.result c.loop-at-test.true c.index-objects-at.is
-    c.in-ok-code.code (get_or c.args.self.now.places c.loop-at.at 0) c.in-ok-code.ensures (c.args.self.now.placed c.loop-at.at (omega arith)) c.loop-at.invariant.1
+    c.in_ok-code.code (get_or c.args.self.now.places c.loop-at.at 0) c.in_ok-code.ensures (c.args.self.now.placed c.loop-at.at (omega arith)) c.loop-at.invariant.1
 
-small : (c : goal.After-sum·1) → c.loop-at.sum + c.in-ok-code.code * get_or c.args.self.now.places c.loop-at.at 0 < 1048576
+small : (c : goal.After-sum·1) → c.loop-at.sum + c.in_ok-code.code * get_or c.args.self.now.places c.loop-at.at 0 < 1048576
 small c =
     let self = c.args.self.now in
     let b = size_states (dimensions_of self).sizes in

@@ -43,13 +43,13 @@ done self x mv before after within apart is e =
     enforce_succeeds (dimensions_of self.numbering).sizes (dimensions_of self.numbering).objects _ _ x mv.subject mv.object after
     (subject_below self mv within) (object_below self mv within) apart (e ∙ ap (answer_to self mv) is)
 
-pub returns-in-err-after : goal.returns-in-err-after
-returns-in-err-after c =
+pub returns-in_err-after : goal.returns-in_err-after
+returns-in_err-after c =
     let self = c.args.self.now in
     let mv = c.args.mv in
     c.from-residual.ensures
     ∙ enforce_fails (dimensions_of self.numbering).sizes (dimensions_of self.numbering).objects (policy_at (scheme_of self) mv.policy).predicates (policy_at (scheme_of self) mv.policy).actions c.args.state mv.subject mv.object
-    (subject_below self mv c.requires.mv) (object_below self mv c.requires.mv) c.requires.apart (c.in-err-after.ensures ∙ ap (answer_to self mv) c.pair_at-before.ensures)
+    (subject_below self mv c.requires.mv) (object_below self mv c.requires.mv) c.requires.apart (c.in_err-after.ensures ∙ ap (answer_to self mv) c.pair_at-before.ensures)
     ∙ after_move self c.args.state mv
 
 known : (self : Scheme) (x : ℕ) → x < state_count (scheme_of self) → x < size_states (dimensions_of self.numbering).sizes ^ (dimensions_of self.numbering).objects
@@ -58,7 +58,7 @@ known self x h = let e = ap (λ (d : Dimensions). size_states d.sizes ^ d.object
 pub exchange-half-requires : goal.exchange-half-requires
 exchange-half-requires c =
     let self = c.args.self.now in
-    let made = done self c.args.state c.args.mv c.pair_at-before.result c.in-ok-after.after c.requires.mv c.requires.apart c.pair_at-before.ensures c.in-ok-after.ensures in
+    let made = done self c.args.state c.args.mv c.pair_at-before.result c.in_ok-after.after c.requires.mv c.requires.apart c.pair_at-before.ensures c.in_ok-after.ensures in
     record {
       state = known self c.args.state c.requires.state;
       object = subject_below self c.args.mv c.requires.mv;
@@ -70,12 +70,12 @@ pub exchange-requires : goal.exchange-requires
 exchange-requires c =
     let self = c.args.self.now in
     let mv = c.args.mv in
-    let made = done self c.args.state mv c.pair_at-before.result c.in-ok-after.after c.requires.mv c.requires.apart c.pair_at-before.ensures c.in-ok-after.ensures in
+    let made = done self c.args.state mv c.pair_at-before.result c.in_ok-after.after c.requires.mv c.requires.apart c.pair_at-before.ensures c.in_ok-after.ensures in
     record {
       state = c.exchange-half.ensures.below;
       object = object_below self mv c.requires.mv;
       old = ap (λ (p : Pair). p.object) c.pair_at-before.ensures
-          ∙ code_kept (dimensions_of self.numbering).sizes (dimensions_of self.numbering).objects c.args.state c.exchange-half.result mv.subject mv.object c.in-ok-after.after.subject
+          ∙ code_kept (dimensions_of self.numbering).sizes (dimensions_of self.numbering).objects c.args.state c.exchange-half.result mv.subject mv.object c.in_ok-after.after.subject
           (subject_below self mv c.requires.mv) (object_below self mv c.requires.mv) (λ e. c.requires.apart (sym e)) c.exchange-half.ensures.value;
       new = made.object;
     }
@@ -84,7 +84,7 @@ pub returns : goal.returns
 returns c =
     let self = c.args.self.now in
     let mv = c.args.mv in
-    let made = done self c.args.state mv c.pair_at-before.result c.in-ok-after.after c.requires.mv c.requires.apart c.pair_at-before.ensures c.in-ok-after.ensures in
-    ap Some (exchanged_twice (dimensions_of self.numbering).sizes (dimensions_of self.numbering).objects c.args.state mv.subject mv.object c.in-ok-after.after.subject c.in-ok-after.after.object c.exchange-half.result c.exchange.result c.exchange-half.ensures.value c.exchange.ensures.value)
+    let made = done self c.args.state mv c.pair_at-before.result c.in_ok-after.after c.requires.mv c.requires.apart c.pair_at-before.ensures c.in_ok-after.ensures in
+    ap Some (exchanged_twice (dimensions_of self.numbering).sizes (dimensions_of self.numbering).objects c.args.state mv.subject mv.object c.in_ok-after.after.subject c.in_ok-after.after.object c.exchange-half.result c.exchange.result c.exchange-half.ensures.value c.exchange.ensures.value)
     ∙ made.state
     ∙ after_move self c.args.state mv

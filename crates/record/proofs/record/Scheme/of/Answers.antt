@@ -19,8 +19,8 @@ use Rattle.record.proofs.Closing.{step_closed}
 use Rattle.record.proofs.Digits.{number_below}
 use Rattle.record.proofs.record.Scheme.of.Goals as goal
 
-pub returns-in-err-numbering : goal.returns-in-err-numbering
-returns-in-err-numbering c =
+pub returns-in_err-numbering : goal.returns-in_err-numbering
+returns-in_err-numbering c =
     let m = draft_of c.args.draft in
     let n = length c.objects-objects.result.now in
     let count : n ≡ object_count m = count_of object_of _ _ c.objects-objects.ensures.list in
@@ -28,15 +28,15 @@ returns-in-err-numbering c =
     ∙ sym (cond-false _ _ _ (and_right _ _
     (ap (λ k. within_bounds (sizes_of m) k) (sym count)
     ∙ ap (λ ks. within_bounds ks n) (sym c.sizes_in.ensures)
-    ∙ none_cond _ _ c.in-err-numbering.ensures)))
+    ∙ none_cond _ _ c.in_err-numbering.ensures)))
 
-pub returns-in-err-start : goal.returns-in-err-start
-returns-in-err-start c =
+pub returns-in_err-start : goal.returns-in_err-start
+returns-in_err-start c =
     let m = draft_of c.args.draft in
     let count : length c.objects-objects.result.now ≡ object_count m = count_of object_of _ _ c.objects-objects.ensures.list in
-    let is = built m _ _ (dimensions_of c.in-ok-numbering.numbering) c.sizes_in.ensures count c.in-ok-numbering.ensures in
+    let is = built m _ _ (dimensions_of c.in_ok-numbering.numbering) c.sizes_in.ensures count c.in_ok-numbering.ensures in
     absurd (none_some (number (sizes_of m) (start_state m))
-    (c.in-err-start.ensures ∙ start_number m (dimensions_of c.in-ok-numbering.numbering) (state_of c.start_in.result) (sym c.if-not-is_well_formed.ensures) is c.start_in.ensures))
+    (c.in_err-start.ensures ∙ start_number m (dimensions_of c.in_ok-numbering.numbering) (state_of c.start_in.result) (sym c.if-not-is_well_formed.ensures) is c.start_in.ensures))
 
 pub invariant-of-result : goal.invariant-of-result
 invariant-of-result c =
@@ -45,9 +45,9 @@ invariant-of-result c =
     let count : n ≡ object_count m = count_of object_of _ _ c.objects-objects.ensures.list in
     let policies : length c.policies-policies.result.now ≡ length m.policies = count_of policy_of _ _ c.policies-policies.ensures.list in
     let formed = sym c.if-not-is_well_formed.ensures in
-    let is = built m _ _ (dimensions_of c.in-ok-numbering.numbering) c.sizes_in.ensures count c.in-ok-numbering.ensures in
-    let number_is = c.in-ok-start.ensures ∙ start_number m (dimensions_of c.in-ok-numbering.numbering) (state_of c.start_in.result) formed is c.start_in.ensures in
-    let start_is : c.in-ok-start.start ≡ number (sizes_of m) (start_state m) = cc in (
+    let is = built m _ _ (dimensions_of c.in_ok-numbering.numbering) c.sizes_in.ensures count c.in_ok-numbering.ensures in
+    let number_is = c.in_ok-start.ensures ∙ start_number m (dimensions_of c.in_ok-numbering.numbering) (state_of c.start_in.result) formed is c.start_in.ensures in
+    let start_is : c.in_ok-start.start ≡ number (sizes_of m) (start_state m) = cc in (
       formed,
       (
         ap (λ (d : Dimensions). d.sizes) is,
