@@ -1,7 +1,6 @@
 -- What each word of a line is, and the forms that it may have there.
 use Rattle.std.specs.Prelude.{ℕ, Bool, true, false, cond, ◌||◌, List, length, codes, ◌==◌}
 use Rattle.std.specs.Str.{bytes_eq}
-use Rattle.words.specs.declared.token.Operator.{Operator}
 use Rattle.words.specs.declared.token.Operator.TheVariants.{Compare, Dash}
 use Rattle.words.specs.Positions.{PlainWord, word_in}
 use Rattle.words.specs.Tokens.{Form, name, number, term, operator, other}
