@@ -1,11 +1,10 @@
 -- The condition of each row of the table against the check that the definition of reading makes.
-use Rattle.std.proofs.Common.{◌≡◌, ℕ, ◌+◌, ◌-◌, ◌<◌, ◌≤◌, Bool, true, false, cond, ◌&&◌, ◌||◌, eqb, ltb, leb, ◌⊎◌, List, [], ◌∷◌, length, get_or, is_some, Some, None, Ok, Err, Option, Result, sym, refl, ap, ◌∙◌, subst, inl, inr, ⊎_elim, arith}
+use Rattle.std.proofs.Common.{◌≡◌, ℕ, ◌+◌, ◌<◌, ◌≤◌, Bool, true, false, cond, ◌||◌, eqb, List, [], ◌∷◌, length, get_or, Some, None, Ok, Err, Option, Result, sym, refl, ap, ◌∙◌, subst, inl, inr, ⊎_elim, arith}
 use Rattle.std.proofs.lemmas.Bool.{leb-false, lt-leb, eqb-false, ne_eqb, or_parts, or_from}
 use Rattle.scheme.specs.declared.kind.Kind.{Kind}
 use Rattle.scheme.specs.Models.{room_for}
 use Rattle.words.specs.declared.fault.WordFault.{WordFault}
 use Rattle.words.specs.declared.fault.WordFault.TheVariants.{Byte, LongWord}
-use Rattle.words.specs.Outcomes.{in_turn}
 use Rattle.words.specs.Positions.{PlainLine, PlainWord, no_word, spot_of, word_in}
 use Rattle.words.specs.Cuts.{words_of}
 use Rattle.words.specs.Tokens.{form_of}

@@ -1,5 +1,5 @@
 -- A line is refused with the first fault of the table that applies to it, or has none.
-use Rattle.std.proofs.Common.{◌≡◌, ℕ, ◌+◌, ◌<◌, ◌≤◌, cond, eqb, ◌⊎◌, List, [], ◌∷◌, length, Some, None, Ok, Err, Option, Result, sym, refl, ap, ◌∙◌, subst, inl, inr, ⊎_elim, arith}
+use Rattle.std.proofs.Common.{◌≡◌, ℕ, ◌+◌, ◌<◌, ◌≤◌, cond, eqb, List, [], ◌∷◌, length, Some, None, Ok, Err, Option, Result, sym, refl, ap, ◌∙◌, subst, inl, inr, ⊎_elim, arith}
 use Rattle.std.proofs.lemmas.Bool.{cases_lt}
 use Rattle.scheme.specs.declared.kind.Kind.{Kind}
 use Rattle.scheme.specs.Models.{SchemeModel}
@@ -12,9 +12,9 @@ use Rattle.lines.specs.declared.fault.LineFault.{LineFault}
 use Rattle.lines.specs.declared.fault.LineFault.TheVariants.{OfWords}
 use Rattle.text.specs.declared.fault.SchemeFault.{SchemeFault}
 use Rattle.text.specs.declared.fault.SchemeFault.TheVariants.{OfLine}
-use Rattle.lines.specs.Kinds.{kind_in, in_order}
+use Rattle.lines.specs.Kinds.{kind_in}
 use Rattle.lines.specs.Lines.{line_kind, right_count, right_forms, formed_kind}
-use Rattle.text.specs.Naming.{under_most, right_names, name_check}
+use Rattle.text.specs.Naming.{under_most, right_names}
 use Rattle.text.specs.Declaring.{declared}
 use Rattle.text.specs.Reading.{Progress, read_kind, read_line}
 use Rattle.text.specs.Refusing.{Row, bytes, lengths, kinds, counts, forms, most, names, rank, Opens, Applies, First, Faultless, below, first_kind, below_line}

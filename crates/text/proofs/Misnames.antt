@@ -1,5 +1,5 @@
 -- The row of names and values against the check of the words by their roles.
-use Rattle.std.proofs.Common.{◌≡◌, ℕ, ◌-◌, ◌<◌, ◌≤◌, Bool, true, false, cond, ◌&&◌, eqb, ltb, leb, ◌⊎◌, List, length, get_or, is_some, Ok, Err, Result, sym, refl, ap, ◌∙◌, inl, inr, ⊎_elim, arith}
+use Rattle.std.proofs.Common.{◌≡◌, ℕ, ◌-◌, ◌<◌, Bool, true, false, cond, ◌&&◌, eqb, leb, ◌⊎◌, List, length, get_or, is_some, Ok, Err, refl, ap, ◌∙◌, inl, inr, ⊎_elim, arith}
 use Rattle.std.proofs.lemmas.Bool.{leb-false, lt-leb, ltb-false, le-ltb, eqb-false, ne_eqb, and_cases, and_left, and_right}
 use Rattle.scheme.specs.declared.kind.Kind.{Kind}
 use Rattle.scheme.specs.Names.{index_of}
@@ -10,11 +10,11 @@ use Rattle.words.specs.Tokens.{Form, name, number, term, operator, other, form_o
 use Rattle.lines.specs.declared.role.Role.{Role}
 use Rattle.lines.specs.declared.role.Role.TheVariants as role
 use Rattle.text.specs.declared.fault.SchemeFault.{SchemeFault}
-use Rattle.text.specs.declared.fault.SchemeFault.TheVariants.{Used, Undefined, Range}
+use Rattle.text.specs.declared.fault.SchemeFault.TheVariants.{Undefined, Range}
 use Rattle.lines.specs.Roles.{role_at}
-use Rattle.text.specs.Naming.{size_at, new_check, known_check, term_form_check, number_check, role_check, name_check, right_names}
+use Rattle.text.specs.Naming.{size_at, term_form_check, number_check, role_check, name_check, right_names}
 use Rattle.text.specs.Reading.{Progress}
-use Rattle.text.specs.Refusing.{names, word_at, Opens, Taken, Unknown, Unattributed, Oversized, Overvalued, Misnamed, Applies}
+use Rattle.text.specs.Refusing.{names, Opens, Unknown, Unattributed, Oversized, Overvalued, Misnamed, Applies}
 use Rattle.text.proofs.Checked.{ok_err, cond_refused, cond_refuses, cond_stopped, cond_stops, row_clear, row_first}
 use Rattle.text.proofs.Conditions.{Clear, Leftmost}
 

@@ -1,6 +1,6 @@
 -- A whole text is judged as the table of refusals says, and in no other way.
-use Rattle.std.proofs.Common.{◌≡◌, ℕ, suc, ◌+◌, ◌<◌, ◌≤◌, Bool, true, false, cond, ◌&&◌, leb, ◌⊎◌, List, [], ◌∷◌, ◌++◌, length, Ok, Err, Result, sym, refl, ap, ◌∙◌, subst, inl, inr, ⊎_elim, add-zero, arith}
-use Rattle.std.proofs.lemmas.Bool.{cases_lt, le-leb, lt-leb, leb-true, leb-false, and_cases, and_parts, and_from, and_left, and_right}
+use Rattle.std.proofs.Common.{◌≡◌, ℕ, ◌+◌, ◌≤◌, Bool, true, false, cond, ◌&&◌, leb, ◌⊎◌, List, [], ◌∷◌, ◌++◌, length, Ok, Err, Result, sym, refl, ap, ◌∙◌, subst, inl, inr, ⊎_elim, add-zero, arith}
+use Rattle.std.proofs.lemmas.Bool.{le-leb, lt-leb, leb-true, leb-false, and_cases, and_left, and_right}
 use Rattle.scheme.specs.Models.{SchemeModel}
 use Rattle.scheme.specs.Counts.{state_count}
 use Rattle.words.specs.declared.fault.WordFault.TheVariants.{LongText}
@@ -11,7 +11,7 @@ use Rattle.lines.specs.declared.fault.LineFault.TheVariants.{OfWords}
 use Rattle.text.specs.declared.fault.SchemeFault.{SchemeFault}
 use Rattle.text.specs.declared.fault.SchemeFault.TheVariants.{OfLine, Missing, States}
 use Rattle.text.specs.Reading.{Progress, start, read_line, complete, few_states, finished, read_lines, reading}
-use Rattle.text.specs.Refusing.{First, Faultless, below_line, Passed, LineRefused, Incomplete, EndFault, EndRefused, Accepted, Judged, Lawful}
+use Rattle.text.specs.Refusing.{First, Faultless, below_line, Passed, Incomplete, EndFault, Judged, Lawful}
 use Rattle.text.proofs.Firsts.{line_refused, line_passes, line_first, line_faultless}
 
 -- the end of a text

@@ -1,3 +1,4 @@
+#![tactic(auto)]
 // Reads a scheme text into the scheme record.
 //
 // fault    what can be wrong with a scheme

@@ -1,4 +1,4 @@
-use Rattle.std.proofs.Common.{◌≡◌, ◌+◌, ◌<◌, ◌≤◌, length, ap, ◌∙◌, arith}
+use Rattle.std.proofs.Common.{◌<◌, ◌≤◌, length, ap, ◌∙◌, arith}
 use Rattle.bounded.specs.Items.{items}
 use Rattle.scheme.specs.Models.{attribute_of}
 use Rattle.scheme.specs.Drafts.{draft_of}

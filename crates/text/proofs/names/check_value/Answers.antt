@@ -5,5 +5,5 @@ use Rattle.text.proofs.names.check_value.Goals as goal
 pub returns-in-Number : goal.returns-in-Number
 returns-in-Number c = search (rules, nat_tests)
 
-pub returns-in-default : goal.returns-in-default
-returns-in-default c = grind (arith, nat_tests)
+pub returns-in_default : goal.returns-in_default
+returns-in_default c = grind (arith, nat_tests)
