@@ -1,3 +1,4 @@
+#![tactic(auto)]
 // Reads a scheme text from standard input and prints its report.
 use input::read_up_to;
 use report::headline_of;

@@ -1,3 +1,4 @@
+#![tactic(auto)]
 // Reading of at most so many bytes.
 ghost use Rattle.std.specs.Prelude.{◌≤◌, length, IfOk};
 

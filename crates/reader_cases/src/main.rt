@@ -1,3 +1,4 @@
+#![tactic(auto)]
 // Reads many texts from standard input, each behind its length on a line of its own, and prints the
 // first line of the report of each.
 ghost use Rattle.std.specs.Prelude.{◌≡◌, ◌+◌, ◌<◌, ◌≤◌, length, IfSome};

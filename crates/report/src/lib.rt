@@ -1,3 +1,4 @@
+#![tactic(auto)]
 // What is reported of a text, as values: the program `annex` only prints them.
 ghost use Rattle.std.specs.Prelude.{◌≡◌};
 ghost use Rattle.text.specs.Reading.{reading};
