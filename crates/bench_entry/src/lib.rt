@@ -64,11 +64,11 @@ fn ask<S: System>(
     witness: &mut [u32],
     answer: &mut Answer,
 ) -> u32
-    ensures number { result ≡ number_of (reply (asks (meaning S.Walk S.System system.now) q) (length marks.old) (length found.old) (length witness.old)) }
-    ensures answer { answer.new ≡ answer_left (reply (asks (meaning S.Walk S.System system.now) q) (length marks.old) (length found.old) (length witness.old)) answer.old }
-    ensures marks { marks.new ≡ marks_left (asks (meaning S.Walk S.System system.now) q) result marks.old }
-    ensures found { found.new ≡ found_left (asks (meaning S.Walk S.System system.now) q) result found.old }
-    ensures witness { witness.new ≡ witness_left (asks (meaning S.Walk S.System system.now) q) result witness.old }
+    ensures number { result ≡ number_of (reply (asks (meaning S.Walk S.System.own system.now) q) (length marks.old) (length found.old) (length witness.old)) }
+    ensures answer { answer.new ≡ answer_left (reply (asks (meaning S.Walk S.System.own system.now) q) (length marks.old) (length found.old) (length witness.old)) answer.old }
+    ensures marks { marks.new ≡ marks_left (asks (meaning S.Walk S.System.own system.now) q) result marks.old }
+    ensures found { found.new ≡ found_left (asks (meaning S.Walk S.System.own system.now) q) result found.old }
+    ensures witness { witness.new ≡ witness_left (asks (meaning S.Walk S.System.own system.now) q) result witness.old }
 {
     tell(analyse(system, q, marks, found, witness), answer)
 }

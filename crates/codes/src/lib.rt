@@ -1,3 +1,4 @@
+#![tactic(auto)]
 // The codes of objects: one number for each choice of absence, values and nulls. Attributes are
 // read and changed on the code itself; nothing is decoded for it.
 //

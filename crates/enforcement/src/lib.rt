@@ -1,3 +1,4 @@
+#![tactic(auto)]
 // Policies enforced on a subject and an object, which are given by their codes.
 //
 // pair         the codes of a subject and an object

@@ -1,3 +1,4 @@
+#![tactic(auto)]
 // The scheme record: an accepted scheme, which is a protection system.
 //
 // numbering   states by their numbers and back

@@ -1,3 +1,4 @@
+#![tactic(auto)]
 // Lines of words, at the end of a vector of bytes. An error says that the vector had too little room and
 // that no memory came.
 //
