@@ -1,4 +1,6 @@
 // A monitor over any protection system: it grants what is enabled, and nothing else.
+#![tactic(auto)]
+
 ghost use Rattle.std.specs.Prelude.{◌≡◌};
 ghost use Rattle.protection.specs.Meaning.{meaning};
 ghost use Rattle.protection.specs.Refusals.{numbered};
