@@ -1,9 +1,10 @@
+#![tactic(auto)]
 // Lists of bounded length that live in one array: nothing here allocates, so nothing here can
 // run out of memory.
 ghost use Rattle.std.specs.Prelude.{◌≡◌, ◌≤◌, length};
 
 // At most N items, in order: the first `len` of the array.
-#[derive(Clone, Copy)]
+#[derive(Copy)]
 pub struct Bounded<T, const N: usize> {
     array: [T; N],
     len: usize,
@@ -11,4 +12,5 @@ pub struct Bounded<T, const N: usize> {
     ghost fits: { len ≤ N },
 }
 
+mod clone;
 pub mod methods;

@@ -1,3 +1,4 @@
+#![tactic(auto)]
 // The scheme record: what a scheme text declares, in bounded tables that allocate nothing.
 //
 // kind      the kinds of lines that declare a scheme
