@@ -12,8 +12,8 @@ use walk::Found;
 
 // Whether a new monitor grants all the moves in turn: it grants the witness of every leak.
 pub fn replays<S: System>(system: &S, moves: &[u32]) -> bool
-    ensures value { result ≡ is_ok (replay_answer (meaning S.Walk S.System system.now) (meaning S.Walk S.System system.now).walk.start moves.now) }
-    ensures witness { (q : Permission) → Replays (meaning S.Walk S.System system.now) q moves.now → result ≡ true }
+    ensures value { result ≡ is_ok (replay_answer (meaning S.Walk S.System.own system.now) (meaning S.Walk S.System.own system.now).walk.start moves.now) }
+    ensures witness { (q : Permission) → Replays (meaning S.Walk S.System.own system.now) q moves.now → result ≡ true }
 {
     let mut monitor = Monitor::new(system);
     monitor.replay(moves).is_ok()
@@ -27,11 +27,11 @@ pub fn confirm<S: System>(
     found: &mut [Found],
     witness: &mut [u32],
 ) -> Result<Verdict, Refusal>
-    ensures answer { told result ≡ analysis_answer (meaning S.Walk S.System system.now) q (length marks.old) (length found.old) (length witness.old) }
-    ensures marks { marks.new ≡ marks_left (meaning S.Walk S.System system.now) q result marks.old }
-    ensures found { found.new ≡ found_left (meaning S.Walk S.System system.now) q result found.old }
-    ensures witness { witness.new ≡ witness_left (meaning S.Walk S.System system.now) q result witness.old }
-    ensures safety { Promise (meaning S.Walk S.System system.now) q result found.new witness.new }
+    ensures answer { told result ≡ analysis_answer (meaning S.Walk S.System.own system.now) q (length marks.old) (length found.old) (length witness.old) }
+    ensures marks { marks.new ≡ marks_left (meaning S.Walk S.System.own system.now) q result marks.old }
+    ensures found { found.new ≡ found_left (meaning S.Walk S.System.own system.now) q result found.old }
+    ensures witness { witness.new ≡ witness_left (meaning S.Walk S.System.own system.now) q result witness.old }
+    ensures safety { Promise (meaning S.Walk S.System.own system.now) q result found.new witness.new }
 {
     let verdict = analyse(system, q, marks, found, witness)?;
     if let Verdict::Leak {

@@ -1,4 +1,6 @@
 // A monitor over any protection system: it grants what is enabled, and nothing else.
+#![tactic(auto)]
+
 ghost use Rattle.std.specs.Prelude.{◌≡◌};
 ghost use Rattle.protection.specs.Meaning.{meaning};
 ghost use Rattle.protection.specs.Refusals.{numbered};
@@ -26,7 +28,7 @@ impl<S: System> Monitor<S> {
     // A new monitor, in the start state.
     pub fn new(system: S) -> Self
         ensures system { result.system ≡ system }
-        ensures state { result.state ≡ (meaning S.Walk S.System system).walk.start }
+        ensures state { result.state ≡ (meaning S.Walk S.System.own system).walk.start }
     {
         let state = system.start();
         Monitor { system, state }
@@ -34,8 +36,8 @@ impl<S: System> Monitor<S> {
 
     // Makes a move, if it is enabled.
     pub fn enforce(&mut self, mv: u32) -> Result<u32, Denial>
-        ensures answer { numbered denial_values result ≡ enforce_answer (meaning S.Walk S.System self.old.system) self.old.state mv }
-        ensures state { self.new.state ≡ after (meaning S.Walk S.System self.old.system) self.old.state (call_enforce mv) }
+        ensures answer { numbered denial_values result ≡ enforce_answer (meaning S.Walk S.System.own self.old.system) self.old.state mv }
+        ensures state { self.new.state ≡ after (meaning S.Walk S.System.own self.old.system) self.old.state (call_enforce mv) }
         ensures system { self.new.system ≡ self.old.system }
     {
         if mv >= self.system.moves() {
@@ -50,8 +52,8 @@ impl<S: System> Monitor<S> {
 
     // Makes the lowest enabled move with that label.
     pub fn request(&mut self, p: Permission) -> Result<u32, Denial>
-        ensures answer { numbered denial_values result ≡ request_answer (meaning S.Walk S.System self.old.system) self.old.state p }
-        ensures state { self.new.state ≡ after (meaning S.Walk S.System self.old.system) self.old.state (call_request p) }
+        ensures answer { numbered denial_values result ≡ request_answer (meaning S.Walk S.System.own self.old.system) self.old.state p }
+        ensures state { self.new.state ≡ after (meaning S.Walk S.System.own self.old.system) self.old.state (call_request p) }
         ensures system { self.new.system ≡ self.old.system }
     {
         if !in_counts(&self.system, p) {
@@ -65,7 +67,7 @@ impl<S: System> Monitor<S> {
 
     // Says whether a move with that label is enabled.
     pub fn may(&self, p: Permission) -> Result<bool, Denial>
-        ensures { numbered denial_values result ≡ may_answer (meaning S.Walk S.System self.now.system) self.now.state p }
+        ensures { numbered denial_values result ≡ may_answer (meaning S.Walk S.System.own self.now.system) self.now.state p }
     {
         if !in_counts(&self.system, p) {
             return Err(Denial::OutOfCounts);
@@ -81,7 +83,7 @@ impl<S: System> Monitor<S> {
 
     // Goes back to the start state.
     pub fn restart(&mut self)
-        ensures state { self.new.state ≡ after (meaning S.Walk S.System self.old.system) self.old.state call_restart }
+        ensures state { self.new.state ≡ after (meaning S.Walk S.System.own self.old.system) self.old.state call_restart }
         ensures system { self.new.system ≡ self.old.system }
     {
         self.state = self.system.start();
@@ -89,10 +91,10 @@ impl<S: System> Monitor<S> {
 
     // Enforces moves in turn, and stops at the first that is refused.
     pub fn replay(&mut self, moves: &[u32]) -> Result<(), Denial>
-        ensures answer { numbered denial_values result ≡ replay_answer (meaning S.Walk S.System self.old.system) self.old.state moves.now }
-        ensures state { self.new.state ≡ replay_leaves (meaning S.Walk S.System self.old.system) self.old.state moves.now }
+        ensures answer { numbered denial_values result ≡ replay_answer (meaning S.Walk S.System.own self.old.system) self.old.state moves.now }
+        ensures state { self.new.state ≡ replay_leaves (meaning S.Walk S.System.own self.old.system) self.old.state moves.now }
         ensures system { self.new.system ≡ self.old.system }
-        ensures law { ReplayLaw (meaning S.Walk S.System self.old.system) self.old.state moves.now (numbered denial_values result) self.new.state }
+        ensures law { ReplayLaw (meaning S.Walk S.System.own self.old.system) self.old.state moves.now (numbered denial_values result) self.new.state }
     {
         for mv in moves {
             self.enforce(*mv)?;
@@ -103,7 +105,7 @@ impl<S: System> Monitor<S> {
 
 // The lowest move that is enabled in a state and has that label.
 fn lowest_enabled<S: System>(system: &S, state: u32, p: Permission) -> Option<u32>
-    ensures { result ≡ lowest_enabled (meaning S.Walk S.System system.now) state p }
+    ensures { result ≡ lowest_enabled (meaning S.Walk S.System.own system.now) state p }
 {
     let moves = system.moves();
     for mv in 0..moves {
@@ -116,7 +118,7 @@ fn lowest_enabled<S: System>(system: &S, state: u32, p: Permission) -> Option<u3
 
 // Whether a move is enabled in a state and has that label.
 fn is_enabled_as<S: System>(system: &S, state: u32, p: Permission, mv: u32) -> bool
-    ensures { result ≡ enabled_as (meaning S.Walk S.System system.now) state p mv }
+    ensures { result ≡ enabled_as (meaning S.Walk S.System.own system.now) state p mv }
 {
     system.step(state, mv).is_some() && system.label(mv) == Some(p)
 }

@@ -29,7 +29,7 @@ impl<'a, S: System> Goal for LabelledBy<'a, S> {
 
 // Whether a permission is within a system's counts.
 pub fn in_counts<S: System>(system: &S, p: Permission) -> bool
-    ensures { result ≡ within_counts (meaning S.Walk S.System system.now) p }
+    ensures { result ≡ within_counts (meaning S.Walk S.System.own system.now) p }
 {
     p.is_within(system.objects(), system.rights())
 }
@@ -42,11 +42,11 @@ pub fn analyse<S: System>(
     found: &mut [Found],
     witness: &mut [u32],
 ) -> Result<Verdict, Refusal>
-    ensures answer { told result ≡ analysis_answer (meaning S.Walk S.System system.now) q (length marks.old) (length found.old) (length witness.old) }
-    ensures marks { marks.new ≡ marks_left (meaning S.Walk S.System system.now) q result marks.old }
-    ensures found { found.new ≡ found_left (meaning S.Walk S.System system.now) q result found.old }
-    ensures witness { witness.new ≡ witness_left (meaning S.Walk S.System system.now) q result witness.old }
-    ensures safety { Promise (meaning S.Walk S.System system.now) q result found.new witness.new }
+    ensures answer { told result ≡ analysis_answer (meaning S.Walk S.System.own system.now) q (length marks.old) (length found.old) (length witness.old) }
+    ensures marks { marks.new ≡ marks_left (meaning S.Walk S.System.own system.now) q result marks.old }
+    ensures found { found.new ≡ found_left (meaning S.Walk S.System.own system.now) q result found.old }
+    ensures witness { witness.new ≡ witness_left (meaning S.Walk S.System.own system.now) q result witness.old }
+    ensures safety { Promise (meaning S.Walk S.System.own system.now) q result found.new witness.new }
 {
     if !in_counts(system, q) {
         return Err(Refusal::OutOfCounts);

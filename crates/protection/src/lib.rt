@@ -1,4 +1,6 @@
 // Protection systems: the interface, the analysis of any of them, and its safety promise.
+#![tactic(auto)]
+
 pub mod analysis;
 pub mod answers;
 pub mod interface;

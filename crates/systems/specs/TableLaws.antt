@@ -6,7 +6,6 @@ use Rattle.std.proofs.lemmas.Bool.{ltb-true, ltb-false, leb-true, leb-false, eqb
 use Rattle.std.proofs.lemmas.Nat.{mul-add-lt, mul-le}
 use Rattle.walk.specs.Walks.{Bounds}
 use Rattle.protection.specs.declared.permission.Permission.{Permission}
-use Rattle.protection.specs.Permissions.{within}
 use Rattle.protection.specs.Systems.{Counts}
 use Rattle.protection.specs.Lowest.{lowest}
 use Rattle.protection.specs.Refusals.{refused}

@@ -1,4 +1,6 @@
 // Protection systems over tables of numbers, and lock lists over any protection system.
+#![tactic(auto)]
+
 mod check;
 pub mod lock;
 pub mod lock_list;

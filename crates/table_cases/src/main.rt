@@ -1,4 +1,5 @@
 // Reads cases from standard input, and prints what tables, lock lists, the analysis and monitors answer.
+#![tactic(auto)]
 
 mod case;
 mod run;

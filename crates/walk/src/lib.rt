@@ -1,4 +1,6 @@
 // Walks, and the breadth-first search over any walk for an enabled move that meets a goal.
+#![tactic(auto)]
+
 ghost use Rattle.std.specs.Prelude.{◌≡◌, ◌≤◌, length};
 ghost use Rattle.walk.specs.Search.{search_from};
 ghost use Rattle.walk.specs.Results.{ending_of, found_of, witness_of, marks_of, over, search_answer, marks_after, found_after, witness_after};

@@ -8,8 +8,8 @@ use Rattle.walk.specs.Results.{found_of, witness_of, over}
 use Rattle.walk.proofs.Whole as whole
 use Rattle.walk.proofs.run.Goals as goal
 
-pub take-states-requires : goal.take-states-requires
-take-states-requires g c =
+pub take_states-requires : goal.take_states-requires
+take_states-requires g c =
     let walk : Walk = g.W.Walk.model c.args.walk.now in
     let stop : ℕ → Bool = g.G.Goal.stops c.args.goal.now in
     subst (λ (n : ℕ). Taking walk stop (set c.clear.new.marks n 1) (set c.args.table.now 0 (entry n 0 0))
@@ -23,21 +23,21 @@ returns-in-Stopped g c =
     let walk : Walk = g.W.Walk.model c.args.walk.now in
     let stop : ℕ → Bool = g.G.Goal.stops c.args.goal.now in
     let o : Outcome = search_from walk stop in
-    let table : List Found = c.take-states.new.table in
+    let table : List Found = c.take_states.new.table in
     let e : Found = entry c.start-start.result 0 0 in
     let count : ℕ = c.in-Stopped.found in
     let w : List ℕ = moves_to (take count table) c.in-Stopped.place ++ (c.in-Stopped.mv ∷ []) in
     let l = c.in-Stopped.ensures in
     let long : length (take count table) ≡ count
-    = whole.list_long walk stop c.take-states.new.marks table c.args.table.now e count c.in-Stopped.place c.in-Stopped.mv l.searching in
-    let total : c.write-witness-length.result ≡ length w = c.write-witness-length.ensures.total in
+    = whole.list_long walk stop c.take_states.new.marks table c.args.table.now e count c.in-Stopped.place c.in-Stopped.mv l.searching in
+    let total : c.write_witness-length.result ≡ length w = c.write_witness-length.ensures.total in
     record {
-      ending = whole.stopped_ending o (take count table) w count c.in-Stopped.tried c.write-witness-length.result l.outcome (sym long) total;
-      marks = whole.marks_end walk stop c.take-states.new.marks table c.args.table.now e count c.in-Stopped.place c.in-Stopped.mv
+      ending = whole.stopped_ending o (take count table) w count c.in-Stopped.tried c.write_witness-length.result l.outcome (sym long) total;
+      marks = whole.marks_end walk stop c.take_states.new.marks table c.args.table.now e count c.in-Stopped.place c.in-Stopped.mv
           l.searching o (ap found_of l.outcome);
-      table = whole.table_end walk stop c.take-states.new.marks table c.args.table.now e count c.in-Stopped.place c.in-Stopped.mv
+      table = whole.table_end walk stop c.take_states.new.marks table c.args.table.now e count c.in-Stopped.place c.in-Stopped.mv
           l.searching o (ap found_of l.outcome);
-      witness = c.write-witness-length.ensures.written
+      witness = c.write_witness-length.ensures.written
           ∙ (ap (λ (n : ℕ). w ++ drop n c.args.witness.now) total ∙ ap (λ (x : Outcome). over (witness_of x) c.args.witness.now) (sym l.outcome));
     }
 
@@ -46,17 +46,17 @@ returns-in-Exhausted g c =
     let walk : Walk = g.W.Walk.model c.args.walk.now in
     let stop : ℕ → Bool = g.G.Goal.stops c.args.goal.now in
     let o : Outcome = search_from walk stop in
-    let table : List Found = c.take-states.new.table in
+    let table : List Found = c.take_states.new.table in
     let e : Found = entry c.start-start.result 0 0 in
     let count : ℕ = c.in-Exhausted.found in
     let l = c.in-Exhausted.ensures in
     let long : length (take count table) ≡ count
-    = whole.list_long walk stop c.take-states.new.marks table c.args.table.now e count count 0 l.searching in
+    = whole.list_long walk stop c.take_states.new.marks table c.args.table.now e count count 0 l.searching in
     record {
       ending = whole.exhausted_ending o (take count table) count c.in-Exhausted.tried l.outcome (sym long);
-      marks = whole.marks_end walk stop c.take-states.new.marks table c.args.table.now e count count 0
+      marks = whole.marks_end walk stop c.take_states.new.marks table c.args.table.now e count count 0
           l.searching o (ap found_of l.outcome);
-      table = whole.table_end walk stop c.take-states.new.marks table c.args.table.now e count count 0
+      table = whole.table_end walk stop c.take_states.new.marks table c.args.table.now e count count 0
           l.searching o (ap found_of l.outcome);
       witness = ap (λ (x : Outcome). over (witness_of x) c.args.witness.now) (sym l.outcome);
     }

@@ -13,7 +13,7 @@ returns-in-Some g c =
     let s : ℕ = c.args.self.now.state in
     let same : enforce_answer system s c.in-Some.mv ≡ request_answer system s c.args.p
     = request_enforces system (g.S.Walk.bounds c.args.self.now.system) s c.args.p c.in-Some.mv
-    (sym c.if-not-in-counts.ensures) (sym c.lowest-enabled.ensures ∙ c.in-Some.is) in
+    (sym c.if-not-in_counts.ensures) (sym c.lowest_enabled.ensures ∙ c.in-Some.is) in
     record {
       answer = c.enforce.ensures.answer ∙ same;
       state = c.enforce.ensures.state ∙ ap (λ (r : Result ℕ Refused). moved system s (result_ok r)) same;

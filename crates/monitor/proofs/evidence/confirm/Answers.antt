@@ -8,6 +8,6 @@ pub unreachable-requires : goal.unreachable-requires
 unreachable-requires g c =
     let system : System = system_of (g.S.Walk.model c.args.system.now) (g.S.System.labels c.args.system.now) in
     both_ways c.replays.result c.if-not-replays.true
-    (witness_granted system c.args.q c.in-ok-verdict.verdict c.analyse.new.found c.analyse.new.witness
+    (witness_granted system c.args.q c.in_ok-verdict.verdict c.analyse.new.found c.analyse.new.witness
     c.in-Leak.found c.in-Leak.tried c.in-Leak.length c.replays.result c.in-Leak.is
-    c.in-ok-verdict.ensures.safety c.replays.ensures.witness)
+    c.in_ok-verdict.ensures.safety c.replays.ensures.witness)

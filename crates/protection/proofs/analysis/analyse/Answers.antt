@@ -18,7 +18,7 @@ returns g c =
     record {
       answer = ap (λ (v : Verdict). Ok (verdict_values v)) c.verdict.ensures
           ∙ answered system q ending (length c.args.marks.now) (length c.args.found.now) (length c.args.witness.now)
-          (sym c.if-not-in-counts.ensures) searched.answer;
+          (sym c.if-not-in_counts.ensures) searched.answer;
       marks = searched.marks;
       found = searched.found;
       witness = searched.witness;

@@ -4,19 +4,19 @@ use Rattle.systems.specs.Tables.{refusal}
 use Rattle.systems.specs.TableLaws.{entries_few}
 use Rattle.systems.proofs.check.check_numbers.Goals as goal
 
-pub first-entry-out-requires : goal.first-entry-out-requires
-first-entry-out-requires c =
+pub first_entry_out-requires : goal.first_entry_out-requires
+first_entry_out-requires c =
     entries_few c.args.numbers.states c.args.numbers.moves c.args.numbers.objects c.args.numbers.rights _ _
-    (sym c.are-counts-out.ensures ∙ c.if-are-counts-out.false)
-    (sym c.are-lengths-out.ensures ∙ c.if-are-lengths-out.false)
+    (sym c.are_counts_out.ensures ∙ c.if-are_counts_out.false)
+    (sym c.are_lengths_out.ensures ∙ c.if-are_lengths_out.false)
 
-pub returns-then-are-counts-out : goal.returns-then-are-counts-out
+pub returns-then-are_counts_out : goal.returns-then-are_counts_out
 unfolding refusal
-returns-then-are-counts-out c = search rules
+returns-then-are_counts_out c = search rules
 
-pub returns-then-are-lengths-out : goal.returns-then-are-lengths-out
+pub returns-then-are_lengths_out : goal.returns-then-are_lengths_out
 unfolding refusal
-returns-then-are-lengths-out c = search rules
+returns-then-are_lengths_out c = search rules
 
 pub returns-then-numbers : goal.returns-then-numbers
 unfolding refusal
@@ -26,9 +26,9 @@ pub returns-in-Some : goal.returns-in-Some
 unfolding refusal
 returns-in-Some c = search rules
 
-pub returns-in-Some-first-entry-out : goal.returns-in-Some-first-entry-out
+pub returns-in-Some-first_entry_out : goal.returns-in-Some-first_entry_out
 unfolding refusal
-returns-in-Some-first-entry-out c = search rules
+returns-in-Some-first_entry_out c = search rules
 
 pub returns : goal.returns
 unfolding refusal

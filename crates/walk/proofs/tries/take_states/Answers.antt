@@ -10,7 +10,7 @@ returns-in-Ends g c =
     let stop : ℕ → Bool = g.G.Goal.stops c.args.goal.now in
     taken.take_ends walk stop c.loop-place.marks c.loop-place.table c.args.table.now
     c.loop-place.count c.loop-place.place c.loop-place.tried c.loop-place.invariant.0
-    c.try-moves.new.marks c.try-moves.new.table c.in-Ends.listed c.in-Ends.mv (omega arith) c.in-Ends.ensures
+    c.try_moves.new.marks c.try_moves.new.table c.in-Ends.listed c.in-Ends.mv (omega arith) c.in-Ends.ensures
 
 pub loop-place-preserved : goal.loop-place-preserved
 loop-place-preserved g c =
@@ -19,7 +19,7 @@ loop-place-preserved g c =
       rw c.loop-place.invariant.1
           (taken.take_more walk stop c.loop-place.marks c.loop-place.table c.args.table.now
           c.loop-place.count c.loop-place.place c.loop-place.tried c.loop-place.invariant.0
-          c.try-moves.new.marks c.try-moves.new.table c.in-Through.listed (omega arith) c.in-Through.ensures),
+          c.try_moves.new.marks c.try_moves.new.table c.in-Through.listed (omega arith) c.in-Through.ensures),
       c.moves-moves.ensures,
     )
 

@@ -4,7 +4,7 @@ use Rattle.walk.specs.Walks.{Walk}
 use Rattle.walk.specs.Search.{state_at}
 use Rattle.walk.proofs.Turns as turns
 use Rattle.walk.proofs.tries.try_moves.Goals as goal
-use Rattle.walk.proofs.tries.try_moves.Goals.{in-Some+else-is-met, in-default}
+use Rattle.walk.proofs.tries.try_moves.Goals.{in-Some+else-is_met, in_default}
 
 pub loop-mv-init : goal.loop-mv-init
 loop-mv-init g c =
@@ -17,19 +17,19 @@ loop-mv-init g c =
       c.moves-moves.ensures,
     )
 
-pub returns-then-is-met : goal.returns-then-is-met
-returns-then-is-met g c =
+pub returns-then-is_met : goal.returns-then-is_met
+returns-then-is_met g c =
     let walk : Walk = g.W.Walk.model c.args.walk.now in
     let stop : ℕ → Bool = g.G.Goal.stops c.args.goal.now in
     let step : walk.step (state_at (take c.loop-mv.count c.loop-mv.table) c.args.place) c.loop-mv.mv ≡ Some c.in-Some.next
     = ap (λ (x : ℕ). walk.step x c.loop-mv.mv) (sym c.loop-mv.invariant.1) ∙ (sym c.step.ensures ∙ c.in-Some.is) in
-    let label : stop c.loop-mv.mv ≡ true = sym c.is-met.ensures ∙ c.if-is-met.true in
+    let label : stop c.loop-mv.mv ≡ true = sym c.is_met.ensures ∙ c.if-is_met.true in
     turns.try_ends walk (g.W.Walk.bounds c.args.walk.now) stop c.args.table.now c.args.known c.args.place
     c.loop-mv.marks c.loop-mv.table c.loop-mv.count c.loop-mv.mv c.loop-mv.invariant.0 c.in-Some.next step label
     (omega (arith, c.loop-mv.invariant.2, c.loop-mv-test.true))
 
-pub note-next-count-requires : goal.note-next-count-requires
-note-next-count-requires g c =
+pub note_next-count-requires : goal.note_next-count-requires
+note_next-count-requires g c =
     let walk : Walk = g.W.Walk.model c.args.walk.now in
     let stop : ℕ → Bool = g.G.Goal.stops c.args.goal.now in
     let step : walk.step (state_at (take c.loop-mv.count c.loop-mv.table) c.args.place) c.loop-mv.mv ≡ Some c.in-Some.next
@@ -56,19 +56,19 @@ loop-mv-preserved g c =
     c.loop-mv.marks c.loop-mv.table c.loop-mv.count c.loop-mv.mv c.loop-mv.invariant.0
     c.match-step.marks c.match-step.table c.match-step.count
     = elim c.match-step.branch [
-      | in-Some+else-is-met w ↦
+      | in-Some+else-is_met w ↦
           turns.some_turn walk bounded stop c.args.table.now c.args.known c.args.place
           c.loop-mv.marks c.loop-mv.table c.loop-mv.count c.loop-mv.mv c.loop-mv.invariant.0
           w.in-Some.next (read ∙ w.in-Some.is)
-          (sym w.is-met.ensures ∙ w.if-is-met.false) below
-          w.note-next-count.new.marks w.note-next-count.new.table w.note-next-count.result
-          w.note-next-count.ensures.list w.note-next-count.ensures.rest w.note-next-count.auto.table w.note-next-count.auto.marks
-          w.note-next-count.ensures.fits w.note-next-count.ensures.grows w.note-next-count.ensures.marked
+          (sym w.is_met.ensures ∙ w.if-is_met.false) below
+          w.note_next-count.new.marks w.note_next-count.new.table w.note_next-count.result
+          w.note_next-count.ensures.list w.note_next-count.ensures.rest w.note_next-count.auto.table w.note_next-count.auto.marks
+          w.note_next-count.ensures.fits w.note_next-count.ensures.grows w.note_next-count.ensures.marked
           c.match-step.marks c.match-step.table c.match-step.count w.marks-is w.table-is w.count-is
-      | in-default w ↦
+      | in_default w ↦
           turns.none_turn walk bounded stop c.args.table.now c.args.known c.args.place
           c.loop-mv.marks c.loop-mv.table c.loop-mv.count c.loop-mv.mv c.loop-mv.invariant.0
-          (read ∙ w.in-default.is) below
+          (read ∙ w.in_default.is) below
           c.match-step.marks c.match-step.table c.match-step.count w.marks-is w.table-is w.count-is
     ] in
     (t.0, c.loop-mv.invariant.1 ∙ t.1, c.moves-moves.ensures)

@@ -2,5 +2,5 @@
 use Rattle.systems.specs.TableLaws.{bare_accepted}
 use Rattle.systems.proofs.table.TableSystem.new.Goals as goal
 
-pub invariant-of-result : goal.invariant-of-result
-invariant-of-result c = (bare_accepted, tt)
+pub invariant_of-result : goal.invariant_of-result
+invariant_of-result c = record { accepted = bare_accepted }

@@ -5,8 +5,8 @@ use Rattle.systems.specs.TableNumbers.{table_of}
 use Rattle.systems.specs.TableLaws.{place_in, place_fits}
 use Rattle.systems.proofs.table_system.TableSystemWalk.step.Goals as goal
 
-pub offset-bounds-self-place : goal.offset-bounds-self-place
-offset-bounds-self-place c =
+pub offset_bounds-self-place : goal.offset_bounds-self-place
+offset_bounds-self-place c =
     let t : Table = table_of c.args.self.now.numbers in
     let inside = place_in t c.args.self.now.accepted c.args.state c.args.mv c.if-state-self.false c.if-mv-self.false in
     let fits = place_fits t c.args.self.now.accepted in
