@@ -1,5 +1,6 @@
-#![tactic(auto)]
 // Reads a scheme text from standard input and prints its report.
+#![tactic(auto)]
+
 use input::read_up_to;
 use report::headline_of;
 use std::io;

@@ -1,6 +1,7 @@
-#![tactic(auto)]
 // Lists of bounded length that live in one array: nothing here allocates, so nothing here can
 // run out of memory.
+#![tactic(auto)]
+
 ghost use Rattle.std.specs.Prelude.{◌≡◌, ◌≤◌, length};
 
 // At most N items, in order: the first `len` of the array.

@@ -1,5 +1,6 @@
-#![tactic(auto)]
 // Reading of at most so many bytes.
+#![tactic(auto)]
+
 ghost use Rattle.std.specs.Prelude.{◌≤◌, length, IfOk};
 
 use std::io;

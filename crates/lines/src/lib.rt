@@ -1,4 +1,3 @@
-#![tactic(auto)]
 // A line by its kind: which kind it is, what each of its words is, and whether they have the forms
 // that the kind asks.
 //
@@ -6,6 +5,8 @@
 // role   what each word of a line is, by the line's kind
 // fault  what can be wrong with a line by itself
 // line   the kind of a line that has no such fault
+#![tactic(auto)]
+
 pub mod fault;
 pub mod line;
 pub mod order;

@@ -1,6 +1,7 @@
-#![tactic(auto)]
 // Reads many texts from standard input, each behind its length on a line of its own, and prints the
 // first line of the report of each.
+#![tactic(auto)]
+
 ghost use Rattle.std.specs.Prelude.{◌≡◌, ◌+◌, ◌<◌, ◌≤◌, length, IfSome};
 
 use input::read_up_to;

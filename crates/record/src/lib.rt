@@ -1,4 +1,3 @@
-#![tactic(auto)]
 // The scheme record: an accepted scheme, which is a protection system.
 //
 // numbering   states by their numbers and back
@@ -6,6 +5,8 @@
 // queries     what queries ask about
 // record      the record: what is declared, with what follows from it for states and moves; its states,
 //             steps and labels; and its place behind the interface of protection systems
+#![tactic(auto)]
+
 pub mod moves;
 pub mod numbering;
 pub mod queries;

@@ -1,5 +1,6 @@
-#![tactic(auto)]
 // What is reported of a text, as values: the program `annex` only prints them.
+#![tactic(auto)]
+
 ghost use Rattle.std.specs.Prelude.{◌≡◌};
 ghost use Rattle.text.specs.Reading.{reading};
 ghost use Rattle.report.specs.Headlines.{headline_of};

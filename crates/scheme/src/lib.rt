@@ -1,4 +1,3 @@
-#![tactic(auto)]
 // The scheme record: what a scheme text declares, in bounded tables that allocate nothing.
 //
 // kind      the kinds of lines that declare a scheme
@@ -8,6 +7,8 @@
 // policies  the plain table of policies, which lends its last one to be filled
 // draft     a scheme that is being read, line by line
 // record    an accepted scheme, whose count of states is known and within its bound
+#![tactic(auto)]
+
 pub mod draft;
 pub mod entries;
 pub mod kind;

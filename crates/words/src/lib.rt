@@ -1,4 +1,3 @@
-#![tactic(auto)]
 // From the bytes of a text to words and tokens that borrow them.
 //
 // position  lines and words, each with its place in the text
@@ -7,6 +6,8 @@
 // classify  which form a word has
 // fault     what can be wrong with the words of a line
 // checks    the search for such a fault
+#![tactic(auto)]
+
 pub mod checks;
 pub mod classify;
 pub mod cut;
