@@ -1,4 +1,0 @@
-pub mod Objects
-pub mod Codes
-pub mod Weights
-pub mod Meanings

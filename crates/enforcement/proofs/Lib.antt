@@ -1,6 +1,0 @@
-mod Loops
-mod Simulation
-pub mod Fitting
-mod Holding
-mod Acting
-pub mod Agreement

@@ -1,2 +1,0 @@
-pub mod Appended
-pub mod Lines
