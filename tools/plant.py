@@ -19,9 +19,10 @@ def first_error(text):
 
 
 def check(crate):
-    r = subprocess.run(["rt", "dev", crate], capture_output=True, text=True)
+    r = subprocess.run(["rt", "check"], cwd="crates/" + crate, capture_output=True, text=True)
     text = r.stdout + r.stderr
-    return "logic=proved" in text.splitlines()[-1] if text else False, text
+    verdicts = [line for line in text.splitlines() if line.startswith("logic=")]
+    return bool(verdicts) and verdicts[-1].startswith("logic=proved"), text
 
 
 def main():
