@@ -13,7 +13,7 @@ import os
 import re
 import sys
 
-WORD = re.compile(r'[^\s(){}.;,@"«»\\]+')
+WORD = re.compile(r'[^\s(){}.;,@"«»\\`]+')
 NAME = r"[^\s(){}.;,@\"«»:\\]+"
 MARKS = r"(?:(?:pub|abbrev|unfoldable|pattern|axiom|infixl?r?) )*"
 # where the plain spelling would fall together with another name of the repository
