@@ -1,0 +1,103 @@
+// The analysis of a text's query, for C to call: bench/ measures it.
+ghost use Rattle.std.specs.Prelude.{◌≡◌, length};
+ghost use Rattle.std.specs.List.{slice_get};
+ghost use Rattle.std.specs.Option.{option_map};
+ghost use Rattle.protection.specs.Answers.{told};
+ghost use Rattle.protection.specs.Meaning.{meaning};
+ghost use Rattle.record.specs.Systems.{permission_asked};
+ghost use Rattle.record.specs.Schemes.{scheme_of};
+ghost use Rattle.bench_entry.specs.Questions.{asked_by, asks, reply, number_of, answer_left, marks_left, found_left, witness_left};
+
+pub mod answer;
+
+use answer::Answer;
+use protection::{Permission, Refusal, System, Verdict, analyse};
+use record::{Scheme, permission_asked};
+use text::read::read;
+use walk::Found;
+
+// Analyses query number `query` of a text. Answers 0, or the number of the refusal: that of the
+// text, that of the analysis, or 30 where the text has no such query.
+#[unsafe(no_mangle)]
+pub extern "C" fn bench_analyse(
+    text: &[u8],
+    query: u32,
+    marks: &mut [u32],
+    found: &mut [Found],
+    witness: &mut [u32],
+    answer: &mut Answer,
+) -> u32
+    ensures number { result ≡ number_of (reply (asked_by text.now query) (length marks.old) (length found.old) (length witness.old)) }
+    ensures answer { answer.new ≡ answer_left (reply (asked_by text.now query) (length marks.old) (length found.old) (length witness.old)) answer.old }
+    ensures marks { marks.new ≡ marks_left (asked_by text.now query) result marks.old }
+    ensures found { found.new ≡ found_left (asked_by text.now query) result found.old }
+    ensures witness { witness.new ≡ witness_left (asked_by text.now query) result witness.old }
+{
+    let mut scheme = Scheme::bare();
+    if let Err(fault) = read(&mut scheme, text) {
+        return fault.report().number;
+    }
+    let Some(q) = asked(&scheme, query) else {
+        return Refusal::OutOfCounts.number();
+    };
+    ask(&scheme, q, marks, found, witness, answer)
+}
+
+// The permission that a query asks about.
+fn asked(scheme: &Scheme, query: u32) -> Option<Permission>
+    ensures { result ≡ option_map permission_asked (slice_get (scheme_of scheme.now).queries query) }
+{
+    let queries = scheme.draft().queries();
+    let at = query as usize;
+    if at >= queries.len() {
+        return None;
+    }
+    Some(permission_asked(queries[at]))
+}
+
+// Analyses a permission of any system.
+fn ask<S: System>(
+    system: &S,
+    q: Permission,
+    marks: &mut [u32],
+    found: &mut [Found],
+    witness: &mut [u32],
+    answer: &mut Answer,
+) -> u32
+    ensures number { result ≡ number_of (reply (asks (meaning S.Walk S.System system.now) q) (length marks.old) (length found.old) (length witness.old)) }
+    ensures answer { answer.new ≡ answer_left (reply (asks (meaning S.Walk S.System system.now) q) (length marks.old) (length found.old) (length witness.old)) answer.old }
+    ensures marks { marks.new ≡ marks_left (asks (meaning S.Walk S.System system.now) q) result marks.old }
+    ensures found { found.new ≡ found_left (asks (meaning S.Walk S.System system.now) q) result found.old }
+    ensures witness { witness.new ≡ witness_left (asks (meaning S.Walk S.System system.now) q) result witness.old }
+{
+    tell(analyse(system, q, marks, found, witness), answer)
+}
+
+// Writes the answer in numbers, unless it is a refusal; 0, or the number of the refusal.
+fn tell(outcome: Result<Verdict, Refusal>, answer: &mut Answer) -> u32
+    ensures number { result ≡ number_of (told outcome) }
+    ensures answer { answer.new ≡ answer_left (told outcome) answer.old }
+{
+    *answer = match outcome {
+        Ok(
+            Verdict::Leak {
+                found,
+                tried,
+                length,
+            },
+        ) => Answer {
+            leak: 1,
+            found,
+            tried,
+            length,
+        },
+        Ok(Verdict::Never { found, tried }) => Answer {
+            leak: 0,
+            found,
+            tried,
+            length: 0,
+        },
+        Err(refusal) => return refusal.number(),
+    };
+    0
+}

@@ -1,0 +1,23 @@
+-- The verdict, and then the moves.
+use Rattle.std.proofs.Common.{ℕ, List, subst}
+use Rattle.std.specs.List.{flat_map}
+use Rattle.scheme.specs.Models.{SchemeModel}
+use Rattle.scheme.specs.Drafts.{draft_of}
+use Rattle.protection.specs.Answers.{verdict_values}
+use Rattle.render.specs.Appended.{Appended}
+use Rattle.render.proofs.Appending.{short_first, at_exit, appended_then}
+use Rattle.reports.specs.Moves.{by_line}
+use Rattle.reports.specs.Answers.{verdict_line}
+use Rattle.reports.proofs.answers.put_evidence.Goals as goal
+
+pub returns-in-err-put_verdict : goal.returns-in-err-put_verdict
+returns-in-err-put_verdict c =
+    at_exit _ _ _ _ c.from-residual.ensures.0
+    (short_first _ _ (verdict_line (draft_of c.args.draft.now) c.args.query (verdict_values c.args.verdict)) _ c.in-err-put_verdict.ensures)
+
+pub returns : goal.returns
+returns c =
+    let m : SchemeModel = draft_of c.args.draft.now in
+    appended_then _ _ _ _ (verdict_line m c.args.query (verdict_values c.args.verdict)) _ c.in-ok-put_verdict.ensures
+    (subst (λ (moves : List ℕ). Appended c.put_moves.result c.put_verdict.new.out c.put_moves.new.out (flat_map (by_line m) moves))
+    c.witness_in.ensures c.put_moves.ensures)

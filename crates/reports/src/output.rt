@@ -1,0 +1,21 @@
+// All that is printed of a text.
+ghost use Rattle.render.specs.Appended.{Appended};
+ghost use Rattle.reports.specs.Reports.{annex_output};
+
+use crate::refusal::put_refusal;
+use crate::whole::put_report;
+use record::Scheme;
+use std::alloc::AllocError;
+use text::read::read;
+
+// Appends the report of a text, or its refusal. Want of memory is the only other answer, and it can
+// come only where the bytes had no room.
+pub fn annex(out: &mut Vec<u8>, text: &[u8]) -> Result<(), AllocError>
+    ensures { Appended result out.old out.new (annex_output text.now) }
+{
+    let mut scheme = Scheme::bare();
+    match read(&mut scheme, text) {
+        Ok(()) => put_report(out, &scheme, scheme.draft()),
+        Err(fault) => put_refusal(out, fault.report()),
+    }
+}

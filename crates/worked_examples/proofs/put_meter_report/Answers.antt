@@ -1,0 +1,53 @@
+use Rattle.std.proofs.Common.{◌≡◌, ℕ, Bool, true, false, cond, ◌&&◌, ltb, List, None, Option, refl, subst}
+use Rattle.std.specs.Fmt.{digits}
+use Rattle.render.specs.Appended.{Appended}
+use Rattle.text.specs.Naming.{size_at}
+use Rattle.walk.specs.Search.{try_moves, take_states}
+use Rattle.worked_examples.specs.Examples.{WorkedExamples}
+use Rattle.worked_examples.proofs.put_meter_report.Goals as goal
+
+-- nothing, whatever the condition
+nothing : (b : Bool) → cond {A = Option ℕ} (b && true) None None ≡ None
+nothing true = refl
+nothing false = refl
+
+worked_examples : WorkedExamples
+unfolding digits try_moves take_states size_at
+worked_examples =
+    record {
+      meter_is = (
+        _,
+        (
+          refl,
+          record {
+            states = refl;
+            start = refl;
+            last_state = refl;
+            drives = refl;
+            refills = refl;
+            refills_not_at_first = refl;
+            never_with_herself = λ x. nothing (ltb x 169);
+          },
+        ),
+      );
+      meter_prints = refl;
+      null_is_not_unequal = refl;
+      sub_below_zero_fails = refl;
+      add_one_to_one = refl;
+      add_to_the_size_fails = refl;
+      assigned_in_turn = refl;
+      most_states = (_, (refl, refl));
+      more_states = refl;
+      more_are_refused = (_, (refl, refl));
+      table_leaks = refl;
+      table_never = refl;
+    }
+
+pub returns : goal.returns
+returns c =
+    record {
+      report =
+          subst (λ (bytes : List ℕ). Appended c.annex.result c.args.out.now c.annex.new.out bytes)
+          worked_examples.meter_prints c.annex.ensures;
+      examples = worked_examples;
+    }

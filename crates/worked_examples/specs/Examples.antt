@@ -1,0 +1,81 @@
+-- Worked examples, as facts about the definitions.
+use Rattle.std.specs.Prelude.{◌≡◌, ℕ, ◌^◌, true, false, List, [], ◌∷◌, Some, None, Ok, Err, Option, Result}
+use Rattle.protection.specs.declared.permission.Permission.{Permission}
+use Rattle.protection.specs.Systems.{System, system_of}
+use Rattle.protection.specs.Refusals.{Refused}
+use Rattle.protection.specs.Answers.{Said}
+use Rattle.protection.specs.Analysis.{analysis_answer}
+use Rattle.systems.specs.Tables.{Table, table_walk, table_labels}
+use Rattle.scheme.specs.declared.terms.Party.{Party}
+use Rattle.scheme.specs.declared.terms.Party.TheVariants.{Subject, Object}
+use Rattle.scheme.specs.declared.terms.Term.{Term}
+use Rattle.scheme.specs.declared.terms.Operand.TheVariants.{SubjectAttribute, ObjectAttribute}
+use Rattle.scheme.specs.declared.terms.Comparison.TheVariants.{NotEqual}
+use Rattle.scheme.specs.declared.terms.Action.{Action}
+use Rattle.scheme.specs.declared.terms.Action.TheVariants.{Assign, Add, Sub}
+use Rattle.scheme.specs.Models.{SchemeModel}
+use Rattle.scheme.specs.Counts.{sizes_of, object_states, state_count}
+use Rattle.codes.specs.Objects.{ObjectState, there}
+use Rattle.enforcement.specs.declared.predicates.Operator.TheVariants.{Compare}
+use Rattle.enforcement.specs.Parties.{Parties}
+use Rattle.enforcement.specs.Predicates.{meets}
+use Rattle.enforcement.specs.Actions.{acted, ran}
+use Rattle.record.specs.States.{number, state_from}
+use Rattle.record.specs.Systems.{object_count, start_state, step_of}
+use Rattle.text.specs.declared.fault.SchemeFault.{SchemeFault}
+use Rattle.text.specs.Faults.{scheme_report}
+use Rattle.text.specs.Reading.{reading}
+use Rattle.report.specs.Reports.{annex_output}
+use Rattle.worked_examples.specs.Texts.{meter, meter_report, most, too_many}
+
+-- the text is accepted, and of the scheme that it declares this holds
+abbrev pub Declares : List ℕ → (SchemeModel → Type 0) → Type 0
+Declares text P = (m : SchemeModel) × ((reading text ≡ Ok m) × P m)
+
+-- the text is refused with this number
+abbrev pub Refuses : List ℕ → ℕ → Type 0
+Refuses text n = (f : SchemeFault) × ((reading text ≡ Err f) × ((scheme_report f).number ≡ n))
+
+-- the meter
+pub record Meter (m : SchemeModel) : Type 0 where
+  pub states : state_count m ≡ 169
+  pub start : number (sizes_of m) (start_state m) ≡ 93
+  -- in state 168 both have role 1 and left 2
+  pub last_state : state_from (sizes_of m) (object_count m) 168 ≡ there (Some 1 ∷ Some 2 ∷ []) ∷ there (Some 1 ∷ Some 2 ∷ []) ∷ []
+  pub drives : step_of m 93 1 ≡ Some 54
+  pub refills : step_of m 54 5 ≡ Some 132
+  pub refills_not_at_first : step_of m 93 5 ≡ None
+  -- move 0 pairs ann with herself
+  pub never_with_herself : (x : ℕ) → step_of m x 0 ≡ None
+
+-- one attribute of a subject and of an object
+abbrev pub only : Party → Term
+only w = record { party = w; attribute = 0 }
+
+abbrev pub having : ℕ → ℕ → Parties
+having s o = record { subject = there (Some s ∷ []); object = there (Some o ∷ []) }
+
+-- two states, and one move, which is labelled 0 1 0 and leads from the first to the second
+abbrev pub two_states : System
+two_states =
+    let t : Table = record { states = 2; moves = 1; objects = 2; rights = 1; start = 0; labels = 0 ∷ 1 ∷ 0 ∷ []; entries = 2 ∷ 0 ∷ [] } in
+    system_of (table_walk t) (table_labels t)
+
+abbrev pub asked : ℕ → ℕ → ℕ → Result Said Refused
+asked s o r = analysis_answer two_states (record { subject = s; object = o; right = r }) 2 2 2
+
+pub record WorkedExamples : Type 0 where
+  pub meter_is : Declares meter Meter
+  pub meter_prints : annex_output meter ≡ meter_report
+  pub null_is_not_unequal : meets (Compare NotEqual) None (Some 0) ≡ false
+  -- an attribute of size 3
+  pub sub_below_zero_fails : acted (3 ∷ []) (Sub (only Subject) 1) (having 0 0) ≡ None
+  pub add_one_to_one : acted (3 ∷ []) (Add (only Subject) 1) (having 1 0) ≡ Some (having 2 0)
+  pub add_to_the_size_fails : acted (3 ∷ []) (Add (only Subject) 1) (having 2 0) ≡ None
+  -- the second assignment reads what the first one wrote
+  pub assigned_in_turn : ran (2 ∷ []) (Assign (only Subject) (ObjectAttribute 0) ∷ Assign (only Object) (SubjectAttribute 0) ∷ []) (having 1 0) ≡ Some (having 0 0)
+  pub most_states : Declares most (λ m. state_count m ≡ 1048576)
+  pub more_states : object_states (31 ∷ 31 ∷ []) ^ 2 ≡ 1050625
+  pub more_are_refused : Refuses too_many 25
+  pub table_leaks : asked 0 1 0 ≡ Ok (record { leaks = true; found = 1; tried = 1; length = 1 })
+  pub table_never : asked 1 0 0 ≡ Ok (record { leaks = false; found = 2; tried = 2; length = 0 })
