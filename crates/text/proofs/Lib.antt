@@ -3,5 +3,5 @@ mod Copying
 mod Checked
 mod Conditions
 mod Misnames
-mod Firsts
-mod Whole
+pub mod Firsts
+pub mod Whole

@@ -35,7 +35,7 @@ is_incomplete m (inr (inr none)) = and_right (leb 1 (length m.attributes)) (leb 
 either_way : (b : Bool) → b ≡ true → b ≡ false → ⊥
 either_way b yes_b no_b = let z : true ≡ false = sym yes_b ∙ no_b in let z' : ◌≡◌ {A = ℕ} 0 1 = cc in omega arith
 
-is_complete : (m : SchemeModel) (b : Bool) → complete m ≡ b → (Incomplete m → ⊥) → complete m ≡ true
+pub is_complete : (m : SchemeModel) (b : Bool) → complete m ≡ b → (Incomplete m → ⊥) → complete m ≡ true
 is_complete m true h whole = h
 is_complete m false h whole = absurd (whole (incomplete m h))
 

@@ -35,7 +35,7 @@ name_form other = []
 abbrev pub name_in : PlainWord → List ℕ
 name_in w = name_form (form_of w.bytes)
 
-abbrev value_form : Form → Option ℕ
+abbrev pub value_form : Form → Option ℕ
 value_form (name b) = None
 value_form (number n) = Some n
 value_form (term p a) = None

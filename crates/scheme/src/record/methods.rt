@@ -47,4 +47,11 @@ impl Scheme {
         let objects = self.draft.objects().len() as u32;
         objects * objects * self.draft.policies().len() as u32
     }
+
+    // What the scheme declares.
+    pub fn draft(&self) -> &Draft
+        ensures { draft_of result.now ≡ scheme_of self.now }
+    {
+        &self.draft
+    }
 }
