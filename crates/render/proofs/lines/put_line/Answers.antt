@@ -7,11 +7,11 @@ use Rattle.render.proofs.lines.put_line.Goals as goal
 
 pub returns-in_err-put : goal.returns-in_err-put
 returns-in_err-put c =
-    at_exit _ _ _ _ c.from-residual.ensures.0 (short_first _ _ c.args.head.now _ c.in_err-put.ensures)
+    at_exit _ _ _ _ c.from_residual.ensures.0 (short_first _ _ c.args.head.now _ c.in_err-put.ensures)
 
 pub returns-in_err-put_words : goal.returns-in_err-put_words
 returns-in_err-put_words c =
-    at_exit _ _ _ _ c.from-residual-in_err-put_words.ensures.0
+    at_exit _ _ _ _ c.from_residual-in_err-put_words.ensures.0
     (short_then _ _ _ c.args.head.now _ c.in_ok-put.ensures
     (short_first _ _ (flat_map spaced (map word_of c.args.words.now)) (10 ∷ []) c.in_err-put_words.ensures))
 

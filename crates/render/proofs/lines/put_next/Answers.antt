@@ -6,7 +6,7 @@ use Rattle.render.proofs.lines.put_next.Goals as goal
 
 pub returns-in_err-put : goal.returns-in_err-put
 returns-in_err-put c =
-    at_exit _ _ _ _ c.from-residual.ensures.0
+    at_exit _ _ _ _ c.from_residual.ensures.0
     (short_first _ _ (32 ∷ []) (word_of c.args.word) c.in_err-put.ensures)
 
 pub returns : goal.returns

@@ -7,7 +7,7 @@ use Rattle.render.proofs.lines.put_words.Goals as goal
 
 pub returns-in_err-put_next : goal.returns-in_err-put_next
 returns-in_err-put_next c =
-    at_exit _ _ _ _ c.from-residual.ensures.0
+    at_exit _ _ _ _ c.from_residual.ensures.0
     (subst (Short c.args.out.now c.put_next.new.out) (joined_map spaced word_of c.args.words.now)
     (short_at (λ w. spaced (word_of w)) c.args.words.now c.loop-word.word-index c.word-item.result c.word-item.result
     _ _ _ c.word-item.is (omega arith) c.loop-word.invariant c.in_err-put_next.ensures))

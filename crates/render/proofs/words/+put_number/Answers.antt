@@ -8,7 +8,7 @@ use Rattle.render.proofs.words.+put_number.Goals.{then-n-ge10+in_ok-put_number, 
 
 pub returns-in_err-put_number : goal.returns-in_err-put_number
 returns-in_err-put_number t c =
-    at_exit _ _ _ _ c.from-residual.ensures.0
+    at_exit _ _ _ _ c.from_residual.ensures.0
     (subst (Short c.args.out.now c.put_number.new.out) (sym (decimal_step c.args.n c.if-n-ge10.true (omega arith)))
     (short_first _ _ (decimal (c.args.n / 10)) _ c.in_err-put_number.ensures))
 
