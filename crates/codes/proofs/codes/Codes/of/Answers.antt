@@ -21,20 +21,15 @@ four_weights ks a b d p q r (suc (suc zero)) h = q
 four_weights ks a b d p q r (suc (suc (suc zero))) h = r
 four_weights ks a b d p q r (suc (suc (suc (suc n)))) h = absurd (omega arith)
 
-pub invariant-of-result : goal.invariant-of-result
-invariant-of-result c =
+pub invariant_of-result : goal.invariant_of-result
+invariant_of-result c =
     let ks = items c.args.sizes in
     let at : (w : ℕ) (i : ℕ) → w ≡ weight c.as_slice-list.result.now i → w ≡ weight ks i =
-    λ w i e. e ∙ ap (λ l. weight l i) c.as_slice-list.ensures in (
-      (λ a. omega (arith, c.weight_of-radix.ensures.bytes a, ap (λ l. get_or l a 0) c.as_slice-list.ensures)),
-      (
-        refl,
-        (
-          four_weights ks _ _ _ (at _ 1 c.weight_of.ensures.value) (at _ 2 c.weight_of-2.ensures.value) (at _ 3 c.weight_of-3.ensures.value),
-          (
-            ap (λ n. 1 + n) (at _ 4 c.weight_of-radix.ensures.value ∙ weight_all ks 4 (length_items 4 c.args.sizes)),
-            (omega arith, tt),
-          ),
-        ),
-      ),
-    )
+    λ w i e. e ∙ ap (λ l. weight l i) c.as_slice-list.ensures in
+    record {
+      bytes = λ a. omega (arith, c.weight_of-radix.ensures.bytes a, ap (λ l. get_or l a 0) c.as_slice-list.ensures);
+      four = refl;
+      weighed = four_weights ks _ _ _ (at _ 1 c.weight_of.ensures.value) (at _ 2 c.weight_of-2.ensures.value) (at _ 3 c.weight_of-3.ensures.value);
+      counted = ap (λ n. 1 + n) (at _ 4 c.weight_of-radix.ensures.value ∙ weight_all ks 4 (length_items 4 c.args.sizes));
+      few = omega arith;
+    }

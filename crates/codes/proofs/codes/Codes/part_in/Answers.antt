@@ -16,8 +16,8 @@ returns-then-at-ge4 c =
       small = omega arith;
     }
 
-pub nonzero-div-result : goal.nonzero-div-result
-nonzero-div-result c =
+pub nonzero_div-result : goal.nonzero_div-result
+nonzero_div-result c =
     let self = c.args.self.now in
     let a = c.args.attribute in
     omega (arith, self.weighed a c.if-at-ge4.false, weight_pos (sizes_in self) a)

@@ -18,17 +18,17 @@ changed c =
     exchanged (sizes_in self) c.args.code c.args.attribute c.args.value _ _ _ (omega arith) (omega (arith, self.counted))
     (sym c.if-not-fits.ensures) c.part_in-old.ensures.value (self.weighed c.args.attribute c.if-at-ge4.false) c.part_of-new.ensures
 
-pub overflow-mul-result : goal.overflow-mul-result
-overflow-mul-result c = omega (arith, (changed c).within)
+pub overflow_mul-result : goal.overflow_mul-result
+overflow_mul-result c = omega (arith, (changed c).within)
 
-pub overflow-sub-result : goal.overflow-sub-result
-overflow-sub-result c = (changed c).within
+pub overflow_sub-result : goal.overflow_sub-result
+overflow_sub-result c = (changed c).within
 
-pub overflow-mul-result-2 : goal.overflow-mul-result-2
-overflow-mul-result-2 c = omega (arith, (changed c).below, c.args.self.now.counted, c.args.self.now.few)
+pub overflow_mul-result-2 : goal.overflow_mul-result-2
+overflow_mul-result-2 c = omega (arith, (changed c).below, c.args.self.now.counted, c.args.self.now.few)
 
-pub overflow-add-result : goal.overflow-add-result
-overflow-add-result c = omega (arith, (changed c).below, c.args.self.now.counted, c.args.self.now.few)
+pub overflow_add-result : goal.overflow_add-result
+overflow_add-result c = omega (arith, (changed c).below, c.args.self.now.counted, c.args.self.now.few)
 
 pub returns : goal.returns
 returns c = (changed c).value

@@ -23,7 +23,7 @@ returns-then-not-fits c =
       small = tt;
     }
 
-more : (c : goal.After-sum·1)
+more : (c : goal.After-sum-1)
     → (summed (c.loop-at.sum + c.part_of.result * get_or c.args.self.now.weights c.loop-at.at 0) (weight (sizes_in c.args.self.now) (c.loop-at.at + 1)) (drop (c.loop-at.at + 1) (sizes_in c.args.self.now)) (drop (c.loop-at.at + 1) c.args.values.now)
     ≡ summed c.loop-at.sum (weight (sizes_in c.args.self.now) c.loop-at.at) (drop c.loop-at.at (sizes_in c.args.self.now)) (drop c.loop-at.at c.args.values.now))
     × (c.loop-at.sum + c.part_of.result * get_or c.args.self.now.weights c.loop-at.at 0 < weight (sizes_in c.args.self.now) (c.loop-at.at + 1))
@@ -35,16 +35,16 @@ more c =
     let four : at < 4 = omega (arith, length_items 4 self.sizes) in
     summed_more ks c.args.values.now at c.loop-at.sum even (omega arith) _ _ c.part_of.ensures (self.weighed at four) (sym c.if-not-fits.ensures) c.loop-at.invariant.1
 
-small : (c : goal.After-sum·1) → c.loop-at.sum + c.part_of.result * get_or c.args.self.now.weights c.loop-at.at 0 < 1048576
+small : (c : goal.After-sum-1) → c.loop-at.sum + c.part_of.result * get_or c.args.self.now.weights c.loop-at.at 0 < 1048576
 small c =
     let self = c.args.self.now in
     omega (arith, (more c).1, weight_le (sizes_in self) (c.loop-at.at + 1), self.counted, self.few)
 
-pub overflow-mul-sum : goal.overflow-mul-sum
-overflow-mul-sum c = omega (arith, small c)
+pub overflow_mul-sum : goal.overflow_mul-sum
+overflow_mul-sum c = omega (arith, small c)
 
-pub overflow-add-sum : goal.overflow-add-sum
-overflow-add-sum c = omega (arith, small c)
+pub overflow_add-sum : goal.overflow_add-sum
+overflow_add-sum c = omega (arith, small c)
 
 pub loop-at-preserved : goal.loop-at-preserved
 loop-at-preserved c = ((more c).0 ∙ c.loop-at.invariant.0, (more c).1)
