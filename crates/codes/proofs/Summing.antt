@@ -3,12 +3,11 @@ use Rattle.std.proofs.Common.{◌≡◌, ℕ, suc, ◌+◌, ◌*◌, ◌<◌, �
 use lib.Arith.{digits_lt}
 use Rattle.std.proofs.lemmas.List.{drop_more, drop_all}
 use Rattle.std.proofs.lemmas.Bool.{false≢true, and_parts}
-use Rattle.scheme.specs.Sizes.{size_combinations}
 use Rattle.scheme.specs.WellFormed.{value_fits, values_fit}
 use Rattle.codes.specs.Codes.{part, weighed}
 use Rattle.codes.specs.Weights.{weight, summed}
 use Rattle.codes.proofs.Digits.{part_lt}
-use Rattle.codes.proofs.Weighing.{weight_more, weight_le, weight_all}
+use Rattle.codes.proofs.Weighing.{weight_more}
 
 fit_length : (ks : List ℕ) (vs : List (Option ℕ)) → values_fit ks vs ≡ true → length vs ≡ length ks
 fit_length [] [] h = refl

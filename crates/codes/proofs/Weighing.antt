@@ -1,15 +1,15 @@
 -- One part of a code: its weight, how it is read, and the code with another part in its place.
-use Rattle.std.proofs.Common.{◌≡◌, ℕ, zero, suc, ◌+◌, ◌-◌, ◌*◌, ◌/◌, ◌%◌, ◌^◌, ◌<◌, ◌≤◌, true, cond, List, [], ◌∷◌, ◌++◌, length, get_or, take, drop, set, Some, None, Option, sym, refl, ap, ◌∙◌, mul_assoc, mul_comm, add-mul, mul-le-mul, pow-suc, mul-one, div-one, add-one, arith}
+use Rattle.std.proofs.Common.{◌≡◌, ℕ, zero, suc, ◌+◌, ◌-◌, ◌*◌, ◌/◌, ◌%◌, ◌^◌, ◌<◌, ◌≤◌, true, cond, List, [], ◌∷◌, ◌++◌, length, get_or, drop, set, Some, None, Option, sym, refl, ap, ◌∙◌, mul_assoc, mul_comm, add-mul, mul-le-mul, pow-suc, mul-one, div-one, arith}
 use native.Mathlib.Nat.{mod-one, div-div-eq-div-mul, pow-zero, pow-le-pow_right}
 use Rattle.std.proofs.lemmas.List.{take_all, get_or_past, append-nil, append_assoc, at_drop_more, at_drop_all}
 use Rattle.std.proofs.lemmas.Bool.{false≢true, and_parts, and_from, lt-ltb, ltb-true, cond-true}
 use Rattle.std.specs.Option.{option_map}
 use Rattle.scheme.specs.Sizes.{size_combinations, size_states}
 use Rattle.scheme.specs.WellFormed.{value_fits, values_fit}
-use Rattle.codes.specs.Objects.{ObjectState, there, object_fits, updated}
+use Rattle.codes.specs.Objects.{ObjectState, there, updated}
 use Rattle.codes.specs.Codes.{part, code, from_part, values_from, value_in, object_from, updated_code}
 use Rattle.codes.specs.Weights.{weight}
-use Rattle.codes.proofs.Digits.{horner, horner_values, code_horner, part_from_part, fit_values, length_values, code_below, part_lt}
+use Rattle.codes.proofs.Digits.{horner, horner_values, code_horner, part_from_part, fit_values, length_values, code_below}
 
 -- Weights.
 

@@ -1,10 +1,10 @@
-use Rattle.std.proofs.Common.{◌≡◌, ℕ, zero, suc, ◌+◌, ◌<◌, ◌≤◌, List, [], ◌∷◌, length, get_or, sym, refl, ap, ◌∙◌, arith}
+use Rattle.std.proofs.Common.{◌≡◌, ℕ, zero, suc, ◌+◌, List, [], ◌∷◌, get_or, sym, refl, ap, ◌∙◌, arith}
 use Rattle.std.proofs.lemmas.Bool.{lt-leb, cond-false}
 use Rattle.bounded.specs.Items.{items}
 use Rattle.bounded.proofs.Lengths.{length_items}
 use Rattle.scheme.specs.Sizes.{size_combinations, size_states}
 use Rattle.codes.specs.Weights.{weight, Weights}
-use Rattle.codes.proofs.Weighing.{weight_le, weight_all}
+use Rattle.codes.proofs.Weighing.{weight_all}
 use Rattle.codes.proofs.codes.Codes.of.Goals as goal
 
 pub returns-then-radix-gt-MAX_CODES : goal.returns-then-radix-gt-MAX_CODES

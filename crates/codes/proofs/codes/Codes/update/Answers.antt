@@ -1,5 +1,4 @@
-use Rattle.std.proofs.Common.{◌≡◌, ◌<◌, get_or, sym, ◌∙◌, arith}
-use Rattle.scheme.specs.Sizes.{size_states}
+use Rattle.std.proofs.Common.{get_or, sym, arith}
 use Rattle.bounded.proofs.Lengths.{length_items}
 use Rattle.codes.specs.Meanings.{sizes_in}
 use Rattle.codes.proofs.Weighing.{Exchanged, exchanged, updated_past}

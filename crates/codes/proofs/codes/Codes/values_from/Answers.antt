@@ -1,4 +1,4 @@
-use Rattle.std.proofs.Common.{◌≡◌, ◌+◌, ◌<◌, [], ◌∷◌, ◌++◌, length, sym, ap, ◌∙◌, arith}
+use Rattle.std.proofs.Common.{◌+◌, ◌<◌, [], ◌∷◌, ◌++◌, length, ap, ◌∙◌, arith}
 use Rattle.bounded.specs.Items.{items}
 use Rattle.bounded.proofs.Pushes.{pushed, length_pushed}
 use Rattle.bounded.proofs.Lengths.{length_items}

@@ -1,6 +1,5 @@
-use Rattle.std.proofs.Common.{◌≡◌, ◌+◌, ◌*◌, ◌<◌, ◌≤◌, length, get_or, drop, sym, ap, ◌∙◌, arith}
+use Rattle.std.proofs.Common.{◌≡◌, ◌+◌, ◌*◌, ◌<◌, length, get_or, drop, sym, ap, ◌∙◌, arith}
 use Rattle.bounded.proofs.Lengths.{length_items}
-use Rattle.scheme.specs.Sizes.{size_combinations}
 use Rattle.codes.specs.Weights.{weight, summed}
 use Rattle.codes.specs.Meanings.{sizes_in}
 use Rattle.codes.proofs.Weighing.{weight_le}
