@@ -8,7 +8,7 @@ use Rattle.enforcement.proofs.actions.run.Goals as goal
 
 pub returns-in_err-pair : goal.returns-in_err-pair
 returns-in_err-pair c =
-    c.from-residual.ensures
+    c.from_residual.ensures
     ∙ ran_fails (sizes_in c.args.codes.now) c.args.actions.now c.loop-action.action-index _ c.loop-action.pair c.loop-action-test.true c.in_err-pair.ensures
     ∙ c.loop-action.invariant.0
 
