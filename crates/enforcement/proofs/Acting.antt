@@ -13,9 +13,9 @@ use Rattle.scheme.specs.declared.terms.Action.TheVariants.{Assign, Clear, Add, S
 use Rattle.scheme.specs.WellFormed.{value_fits}
 use Rattle.codes.specs.Objects.{ObjectState, absent, there, read_at, updated}
 use Rattle.enforcement.specs.Parties.{Parties, party_in, with_party}
-use Rattle.enforcement.specs.Actions.{and_then, source_of, stored, raised, lowered, gone, destroyed, acted, ran}
+use Rattle.enforcement.specs.Actions.{and_then, source_of, stored, raised, lowered, gone, acted, ran}
 use Rattle.enforcement.specs.Enforcement.{State, placed}
-use Rattle.enforcement.specs.Relation.{There, Has, who, Reads, Gives, Updates, Stores, Acts, Runs}
+use Rattle.enforcement.specs.Relation.{There, Has, who, Gives, Stores, Acts, Runs}
 use Rattle.enforcement.proofs.Fitting.{none_some, then_some}
 
 -- the state t has the parties p at s and o

@@ -12,7 +12,7 @@ use Rattle.codes.specs.Objects.{ObjectState, absent, there, object_fits, updated
 use Rattle.codes.proofs.Weighing.{fit_set}
 use Rattle.enforcement.specs.Parties.{Parties, party_in, with_party}
 use Rattle.enforcement.specs.Predicates.{all_hold}
-use Rattle.enforcement.specs.Actions.{and_then, source_of, stored, raised, lowered, gone, destroyed, acted, ran}
+use Rattle.enforcement.specs.Actions.{and_then, source_of, stored, raised, lowered, gone, acted, ran}
 use Rattle.enforcement.specs.Enforcement.{enforced_on}
 
 -- no option is both none and some

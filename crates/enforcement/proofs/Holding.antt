@@ -1,5 +1,5 @@
 -- Predicates: what is computed of the values is what the relation says of the state.
-use Rattle.std.proofs.Common.{◌≡◌, ℕ, Bool, true, not, ◌&&◌, eqb, ltb, leb, List, [], ◌∷◌, get_or, is_some, Some, None, Option, sym, refl, ap, ◌∙◌, subst, arith}
+use Rattle.std.proofs.Common.{◌≡◌, ℕ, Bool, true, not, eqb, ltb, leb, List, [], ◌∷◌, get_or, is_some, Some, None, Option, sym, refl, ap, ◌∙◌, subst}
 use Rattle.std.proofs.lemmas.Bool.{false≢true, ltb-true, leb-true, eqb-true, eqb-false, lt-ltb, le-leb, eq-eqb, ne_eqb, and_parts, and_from, not-true, not_from_false}
 use Rattle.scheme.specs.declared.terms.Party.{Party}
 use Rattle.scheme.specs.declared.terms.Party.TheVariants.{Subject, Object}
@@ -12,7 +12,7 @@ use Rattle.scheme.specs.declared.terms.Predicate.TheVariants.{Null, Set, Compare
 use Rattle.codes.specs.Objects.{there}
 use Rattle.enforcement.specs.Predicates.{both, compares, party_value, term_value, operand_value, holds_on, all_hold}
 use Rattle.enforcement.specs.Enforcement.{State}
-use Rattle.enforcement.specs.Relation.{There, Has, who, Reads, Gives, Related, Compared, Holds, AllHold}
+use Rattle.enforcement.specs.Relation.{There, Has, who, Gives, Related, Compared, Holds, AllHold}
 
 related_true : (f : ℕ → ℕ → Bool) (R : ℕ → ℕ → Type 0) → ((x y : ℕ) → f x y ≡ true → R x y)
     → (l r : Option ℕ) → both f l r ≡ true → Related R l r

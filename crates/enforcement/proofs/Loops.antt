@@ -1,5 +1,5 @@
 -- One turn of the loop over the predicates.
-use Rattle.std.proofs.Common.{◌≡◌, ℕ, ◌+◌, ◌<◌, Bool, ◌&&◌, List, ◌∷◌, length, get_or, drop, Option, sym, ap, ◌∙◌}
+use Rattle.std.proofs.Common.{◌≡◌, ℕ, ◌+◌, ◌<◌, Bool, ◌&&◌, List, length, get_or, drop, Option, ap, ◌∙◌}
 use Rattle.std.proofs.lemmas.List.{at_drop_more}
 use Rattle.scheme.specs.declared.terms.Predicate.{Predicate}
 use Rattle.enforcement.specs.Predicates.{holds_on, all_hold}

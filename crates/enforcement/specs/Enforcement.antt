@@ -1,5 +1,5 @@
 -- Enforcement of a policy, computed: the state that it leads to, or none.
-use Rattle.std.specs.Prelude.{ℕ, cond, List, Some, None, Option, ◌==◌, slice_index_or, slice_set}
+use Rattle.std.specs.Prelude.{ℕ, cond, List, None, Option, ◌==◌, slice_index_or, slice_set}
 use Rattle.std.specs.Option.{option_map}
 use Rattle.scheme.specs.declared.terms.Predicate.{Predicate}
 use Rattle.scheme.specs.declared.terms.Action.{Action}

@@ -1,6 +1,6 @@
 -- Enforcement of a policy as a relation between states: who is there, which predicates hold, and which state each
 -- action leads to. `ks` has the size of each attribute.
-use Rattle.std.specs.Prelude.{◌≡◌, ℕ, ◌+◌, ◌<◌, ◌≤◌, true, ◌↔◌, List, [], ◌∷◌, Some, None, Option, ◌≢◌, slice_index, slice_index_or, slice_set}
+use Rattle.std.specs.Prelude.{◌≡◌, ℕ, ◌+◌, ◌<◌, ◌≤◌, true, List, [], ◌∷◌, Some, None, Option, ◌≢◌, slice_index, slice_index_or, slice_set}
 use Rattle.scheme.specs.declared.terms.Party.{Party}
 use Rattle.scheme.specs.declared.terms.Party.TheVariants.{Subject, Object}
 use Rattle.scheme.specs.declared.terms.Term.{Term}
@@ -14,7 +14,7 @@ use Rattle.scheme.specs.declared.terms.Action.{Action}
 use Rattle.scheme.specs.declared.terms.Action.TheVariants.{Assign, Clear, Add, Sub, Destroy}
 use Rattle.scheme.specs.WellFormed.{value_fits}
 use Rattle.codes.specs.Objects.{absent, there}
-use Rattle.enforcement.specs.Enforcement.{State, enforced}
+use Rattle.enforcement.specs.Enforcement.{State}
 
 -- object i is there, with these values
 abbrev pub There : State → ℕ → List (Option ℕ) → Type 0
