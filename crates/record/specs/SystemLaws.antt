@@ -18,6 +18,7 @@ use Rattle.scheme.specs.Models.{PolicyModel, SchemeModel, object_of}
 use Rattle.scheme.specs.Sizes.{sizes_of, size_states}
 use Rattle.scheme.specs.Counts.{state_count, move_count}
 use Rattle.scheme.specs.WellFormed.{rights_fit, well_formed}
+use Rattle.scheme.proofs.Sizes.{state_count_sizes}
 use Rattle.record.specs.declared.record.Scheme.{Scheme}
 use Rattle.record.specs.Moves.{move_at, move_of}
 use Rattle.record.specs.Systems.{object_count, no_policy, policy_at, step_of, permission_of, label_of, walk_of, labels_of}
@@ -40,12 +41,13 @@ states_some m =
     let z : 0 < size_states (sizes_of m) = omega arith in
     let h : 0 ≤ object_count m = omega arith in
     let p : size_states (sizes_of m) ^ 0 ≤ size_states (sizes_of m) ^ object_count m = pow-le-pow_right z h in
-    omega (arith, p, pow-zero (size_states (sizes_of m)))
+    omega (arith, p, pow-zero (size_states (sizes_of m)), state_count_sizes m)
 
 states_few : (s : Scheme) → state_count (scheme_of s) ≤ 1048576
 states_few s =
     let e : s.numbering.states ≡ state_count (scheme_of s) =
-    s.numbering.counted ∙ ap (λ ks. size_states ks ^ s.numbering.objects) s.sized ∙ ap (λ n. size_states (sizes_of (scheme_of s)) ^ n) s.numbered in
+    s.numbering.counted ∙ ap (λ ks. size_states ks ^ s.numbering.objects) s.sized ∙ ap (λ n. size_states (sizes_of (scheme_of s)) ^ n) s.numbered
+    ∙ sym (state_count_sizes (scheme_of s)) in
     omega (arith, s.numbering.few)
 
 moves_few : (s : Scheme) → move_count (scheme_of s) ≤ 2048

@@ -6,8 +6,8 @@ use Rattle.record.proofs.numbering.makes.places_of.Goals as goal
 pub loop-at-init : goal.loop-at-init
 loop-at-init c = (λ i h. absurd (omega arith), pow_none c.args.radix, refl)
 
-pub overflow-mul-place : goal.overflow-mul-place
-overflow-mul-place c =
+pub overflow_mul-place : goal.overflow_mul-place
+overflow_mul-place c =
     let b = c.args.radix in
     let at = c.loop-at.at in
     omega (arith, pow_more b at c.loop-at.place c.loop-at.invariant.1, pow_le b (at + 1) c.args.objects c.requires.positive (omega arith), c.requires.few)

@@ -12,7 +12,7 @@ use Rattle.record.specs.Moves.{InScheme}
 use Rattle.record.specs.Numberings.{Dimensions, dimensions_of, pair_at}
 use Rattle.record.specs.Systems.{object_count, policy_at, state_after}
 use Rattle.record.specs.Schemes.{scheme_of}
-use Rattle.record.proofs.Dimensions.{dimensions}
+use Rattle.record.proofs.Dimensions.{dimensions, states_counted}
 use Rattle.record.proofs.Exchanging.{code_kept}
 use Rattle.record.proofs.Stepping.{Enforced, enforce_fails, enforce_succeeds, exchanged_twice}
 use Rattle.record.proofs.record.Scheme.apply.Goals as goal
@@ -47,13 +47,13 @@ pub returns-in_err-after : goal.returns-in_err-after
 returns-in_err-after c =
     let self = c.args.self.now in
     let mv = c.args.mv in
-    c.from-residual.ensures
+    c.from_residual.ensures
     ∙ enforce_fails (dimensions_of self.numbering).sizes (dimensions_of self.numbering).objects (policy_at (scheme_of self) mv.policy).predicates (policy_at (scheme_of self) mv.policy).actions c.args.state mv.subject mv.object
     (subject_below self mv c.requires.mv) (object_below self mv c.requires.mv) c.requires.apart (c.in_err-after.ensures ∙ ap (answer_to self mv) c.pair_at-before.ensures)
     ∙ after_move self c.args.state mv
 
 known : (self : Scheme) (x : ℕ) → x < state_count (scheme_of self) → x < size_states (dimensions_of self.numbering).sizes ^ (dimensions_of self.numbering).objects
-known self x h = let e = ap (λ (d : Dimensions). size_states d.sizes ^ d.objects) (dimensions self) in omega arith
+known self x h = omega (arith, states_counted self)
 
 pub exchange-half-requires : goal.exchange-half-requires
 exchange-half-requires c =
