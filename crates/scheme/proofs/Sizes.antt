@@ -1,9 +1,24 @@
--- The sizes of attributes that stand for others.
-use Rattle.std.proofs.Common.{◌≡◌, List, map, sym, ap, ◌∙◌}
+-- The sizes of attributes that stand for others, and counts by the sizes alone.
+use Rattle.std.proofs.Common.{◌≡◌, ◌+◌, ◌*◌, ◌^◌, List, [], ◌∷◌, map, length, sym, refl, ap, ◌∙◌, mul_comm}
 use Rattle.std.proofs.lemmas.Simd.{map-map}
 use Rattle.scheme.specs.declared.entries.Attribute.{Attribute}
 use Rattle.scheme.specs.Models.{AttributeModel, SchemeModel, attribute_of}
-use Rattle.scheme.specs.Sizes.{sizes_of}
+use Rattle.scheme.specs.Counts.{combinations, object_states, state_count}
+use Rattle.scheme.specs.Sizes.{sizes_of, size_combinations, size_states}
 
 pub sizes_of_lem : (m : SchemeModel) (xs : List Attribute) → map attribute_of xs ≡ m.attributes → map (λ (a : Attribute). a.size) xs ≡ sizes_of m
 sizes_of_lem m xs e = sym (map-map (λ (a : AttributeModel). a.size) attribute_of xs) ∙ ap (map (λ (a : AttributeModel). a.size)) e
+
+-- the counts do not depend on the names, nor on the side from which the sizes are multiplied
+
+pub combinations_sizes : (as' : List AttributeModel) → combinations as' ≡ size_combinations (map (λ (a : AttributeModel). a.size) as')
+combinations_sizes [] = refl
+combinations_sizes (a ∷ as') =
+    ap (λ n. (a.size + 1) * n) (combinations_sizes as')
+    ∙ mul_comm (a.size + 1) (size_combinations (map (λ (a : AttributeModel). a.size) as'))
+
+pub object_states_sizes : (m : SchemeModel) → object_states m ≡ size_states (sizes_of m)
+object_states_sizes m = ap (λ n. 1 + n) (combinations_sizes m.attributes)
+
+pub state_count_sizes : (m : SchemeModel) → state_count m ≡ size_states (sizes_of m) ^ length m.objects
+state_count_sizes m = ap (λ n. n ^ length m.objects) (object_states_sizes m)

@@ -1,0 +1,169 @@
+-- One part of a code: its weight, how it is read, and the code with another part in its place.
+use Rattle.std.proofs.Common.{◌≡◌, ℕ, zero, suc, ◌+◌, ◌-◌, ◌*◌, ◌/◌, ◌%◌, ◌^◌, ◌<◌, ◌≤◌, true, cond, List, [], ◌∷◌, ◌++◌, length, get_or, drop, set, Some, None, Option, sym, refl, ap, ◌∙◌, mul_assoc, mul_comm, add-mul, mul-le-mul, pow-suc, mul-one, div-one, arith}
+use native.Mathlib.Nat.{mod-one, div-div-eq-div-mul, pow-zero, pow-le-pow_right}
+use Rattle.std.proofs.lemmas.List.{take_all, get_or_past, append-nil, append_assoc, at_drop_more, at_drop_all}
+use Rattle.std.proofs.lemmas.Bool.{false≢true, and_parts, and_from, lt-ltb, ltb-true, cond-true}
+use Rattle.std.specs.Option.{option_map}
+use Rattle.scheme.specs.Sizes.{size_combinations, size_states}
+use Rattle.scheme.specs.WellFormed.{value_fits, values_fit}
+use Rattle.codes.specs.Objects.{ObjectState, there, updated}
+use Rattle.codes.specs.Codes.{part, code, from_part, values_from, value_in, object_from, updated_code}
+use Rattle.codes.specs.Weights.{weight}
+use Rattle.codes.proofs.Digits.{horner, horner_values, code_horner, part_from_part, fit_values, length_values, code_below}
+
+-- Weights.
+
+pub weight_more : (ks : List ℕ) (a : ℕ) → a < length ks → weight ks (a + 1) ≡ weight ks a * (get_or ks a 0 + 1)
+weight_more [] a h = absurd (omega arith)
+weight_more (k ∷ ks) zero h = refl
+weight_more (k ∷ ks) (suc a) h =
+    let w : ℕ = weight ks a in
+    let g : ℕ = get_or ks a 0 + 1 in
+    let ih : weight ks (a + 1) ≡ w * g = weight_more ks a (omega arith) in
+    let e : suc a + 1 ≡ suc (a + 1) = omega arith in
+    ap (λ n. weight (k ∷ ks) n) e
+    ∙ ap (λ n. n * (k + 1)) ih
+    ∙ (mul_assoc w g (k + 1) ∙ ap (λ n. w * n) (mul_comm g (k + 1)) ∙ sym (mul_assoc w (k + 1) g))
+
+pub weight_pos : (ks : List ℕ) (a : ℕ) → 0 < weight ks a
+weight_pos ks zero = omega arith
+weight_pos [] (suc a) = omega arith
+weight_pos (k ∷ ks) (suc a) = let z : 1 ≤ k + 1 = omega arith in let p : 1 * 1 ≤ weight ks a * (k + 1) = mul-le-mul (weight_pos ks a) z in omega arith
+
+pub weight_all : (ks : List ℕ) (a : ℕ) → length ks ≤ a → weight ks a ≡ size_combinations ks
+weight_all ks a h = ap size_combinations (take_all a ks h)
+
+pub weight_le : (ks : List ℕ) (a : ℕ) → weight ks a ≤ size_combinations ks
+weight_le [] zero = omega arith
+weight_le [] (suc a) = omega arith
+weight_le (k ∷ ks) zero =
+    omega (arith, weight_pos (k ∷ ks) (suc (length ks)), weight_all (k ∷ ks) (suc (length ks)) (omega arith))
+weight_le (k ∷ ks) (suc a) = let z : k + 1 ≤ k + 1 = omega arith in mul-le-mul (weight_le ks a) z
+
+-- four sizes of a byte each
+combinations_le : (ks : List ℕ) → ((i : ℕ) → get_or ks i 0 < 256) → size_combinations ks ≤ 256 ^ length ks
+combinations_le [] f = rw pow-zero (omega arith)
+combinations_le (k ∷ ks) f =
+    let z : k < 256 = f 0 in
+    let y : k + 1 ≤ 256 = omega arith in
+    rw pow-suc (mul-le-mul (combinations_le ks (λ i. f (suc i))) y)
+
+pub combinations_fit : (ks : List ℕ) → length ks ≤ 4 → ((i : ℕ) → get_or ks i 0 < 256) → size_combinations ks ≤ 2 ^ 32
+combinations_fit ks h f =
+    let z : 0 < 256 = omega arith in
+    omega (arith, combinations_le ks f, pow-le-pow_right z h)
+
+-- Reading a part.
+
+pub part_is : (ks : List ℕ) (c a : ℕ) → c / weight ks a % (get_or ks a 0 + 1) ≡ part (get_or (values_from ks c) a None)
+part_is [] c a = mod-one (c / weight [] a)
+part_is (k ∷ ks) c zero = ap (λ n. n % (k + 1)) (div-one c) ∙ sym (part_from_part (c % (k + 1)))
+part_is (k ∷ ks) c (suc a) =
+    ap (λ n. n % (get_or ks a 0 + 1)) (ap (λ n. c / n) (mul_comm (weight ks a) (k + 1)) ∙ sym (div-div-eq-div-mul c (k + 1) (weight ks a)))
+    ∙ part_is ks (c / (k + 1)) a
+
+-- Another part.
+
+horner_set : (ks : List ℕ) (vs : List (Option ℕ)) (a : ℕ) (v : Option ℕ) → values_fit ks vs ≡ true → value_fits (get_or ks a 0) v ≡ true
+    → horner ks (set vs a v) + part (get_or vs a None) * weight ks a ≡ horner ks vs + part v * weight ks a
+horner_set [] [] a None h f = refl
+horner_set [] [] a (Some x) h f = absurd (omega (arith, ltb-true x 0 f))
+horner_set [] (x ∷ vs) a v h f = absurd (false≢true h)
+horner_set (k ∷ ks) [] a v h f = absurd (false≢true h)
+horner_set (k ∷ ks) (x ∷ vs) zero v h f = omega (arith, mul-one (part x), mul-one (part v))
+horner_set (k ∷ ks) (x ∷ vs) (suc a) v h f =
+    let w : ℕ = weight ks a in
+    let p : ℕ = part (get_or vs a None) in
+    let ih : horner ks (set vs a v) + p * w ≡ horner ks vs + part v * w =
+    horner_set ks vs a v (and_parts (value_fits k x) (values_fit ks vs) h).1 f in
+    let e : (horner ks (set vs a v) + p * w) * (k + 1) ≡ (horner ks vs + part v * w) * (k + 1) = ap (λ (x : ℕ). x * (k + 1)) ih in
+    omega (
+      arith,
+      e,
+      add-mul (horner ks (set vs a v)) (p * w) (k + 1),
+      add-mul (horner ks vs) (part v * w) (k + 1),
+      mul_assoc p w (k + 1),
+      mul_assoc (part v) w (k + 1),
+    )
+
+pub fit_set : (ks : List ℕ) (vs : List (Option ℕ)) (a : ℕ) (v : Option ℕ) → values_fit ks vs ≡ true → value_fits (get_or ks a 0) v ≡ true
+    → values_fit ks (set vs a v) ≡ true
+fit_set [] [] a v h f = refl
+fit_set [] (x ∷ vs) a v h f = absurd (false≢true h)
+fit_set (k ∷ ks) [] a v h f = absurd (false≢true h)
+fit_set (k ∷ ks) (x ∷ vs) zero v h f = and_from _ _ f (and_parts (value_fits k x) (values_fit ks vs) h).1
+fit_set (k ∷ ks) (x ∷ vs) (suc a) v h f =
+    let p = and_parts (value_fits k x) (values_fit ks vs) h in
+    and_from _ _ p.0 (fit_set ks vs a v p.1 f)
+
+pub present : (ks : List ℕ) (c : ℕ) → 0 < c → object_from ks c ≡ there (values_from ks (c - 1))
+present ks zero q = absurd (omega arith)
+present ks (suc c) q = let e : c ≡ suc c - 1 = omega arith in ap (λ (x : ℕ). there (values_from ks x)) e
+
+-- the code c with the value v in place of the part p of an attribute of weight w
+pub record Exchanged (ks : List ℕ) (c a : ℕ) (v : Option ℕ) (p w new : ℕ) : Type 0 where
+  pub within : p * w ≤ c
+  pub below : c - p * w + new * w < size_states ks
+  pub value : Some (c - p * w + new * w) ≡ updated_code ks c a v
+
+exchange : (ks : List ℕ) (c a : ℕ) (v : Option ℕ) → 0 < c → c < size_states ks → value_fits (get_or ks a 0) v ≡ true
+    → Exchanged ks c a v (part (value_in ks c a)) (weight ks a) (part v)
+exchange ks c a v pos h f =
+    let vs : List (Option ℕ) = values_from ks (c - 1) in
+    let old : ℕ = part (value_in ks c a) * weight ks a in
+    let new : ℕ = part v * weight ks a in
+    let whole : horner ks vs ≡ c - 1 = horner_values ks (c - 1) (omega arith) in
+    let sum : horner ks (set vs a v) + old ≡ horner ks vs + new = horner_set ks vs a v (fit_values ks (c - 1)) f in
+    let none : horner ks (set vs a None) + old ≡ horner ks vs + part None * weight ks a = horner_set ks vs a None (fit_values ks (c - 1)) refl in
+    let changed : ObjectState = there (set vs a v) in
+    let same : c - old + new ≡ code ks changed = omega (arith, code_horner ks (set vs a v)) in
+    record {
+      within = omega arith;
+      below = omega (arith, code_below ks changed (fit_set ks vs a v (fit_values ks (c - 1)) f));
+      value =
+          ap Some same
+          ∙ sym (cond-true _ _ _ (lt-ltb c (size_states ks) h)
+          ∙ ap (λ (x : ObjectState). option_map (code ks) (updated ks x a v)) (present ks c pos)
+          ∙ ap (λ b. option_map (code ks) (cond b (Some changed) None)) f);
+    }
+
+-- the same with the numbers that the program holds
+pub exchanged : (ks : List ℕ) (c a : ℕ) (v : Option ℕ) (p w new : ℕ) → 0 < c → c < size_states ks → value_fits (get_or ks a 0) v ≡ true
+    → p ≡ part (value_in ks c a) → w ≡ weight ks a → new ≡ part v → Exchanged ks c a v p w new
+exchanged ks c a v p w new pos h f is-part is-weight is_new =
+    rw (is-part, is-weight, is_new) (exchange ks c a v pos h f)
+
+pub past_values : (ks : List ℕ) (c a : ℕ) → length ks ≤ a → get_or (values_from ks c) a None ≡ None
+past_values ks c a h = get_or_past (values_from ks c) a None (omega (arith, length_values ks c))
+
+-- an attribute that is not there can only be null, and stays so
+pub updated_past : (ks : List ℕ) (c a : ℕ) (v : Option ℕ) → 0 < c → c < size_states ks → length ks ≤ a → value_fits (get_or ks a 0) v ≡ true
+    → Some c ≡ updated_code ks c a v
+updated_past ks c a v pos h past f =
+    let e = exchange ks c a v pos h f in
+    let old : part (value_in ks c a) * weight ks a ≡ 0 * weight ks a = ap (λ x. part x * weight ks a) (past_values ks (c - 1) a past) in
+    let new : part v * weight ks a ≡ 0 * weight ks a = ap (λ x. part x * weight ks a) (only_null v (ap (λ k. value_fits k v) (sym (get_or_past ks a 0 past)) ∙ f)) in
+    let same : c ≡ c - part (value_in ks c a) * weight ks a + part v * weight ks a = omega arith in
+    ap Some same ∙ e.value
+  where
+    only_null : (v : Option ℕ) → value_fits 0 v ≡ true → v ≡ None
+    only_null None f = refl
+    only_null (Some x) f = absurd (omega (arith, ltb-true x 0 f))
+
+-- Whole objects.
+
+-- the values so far, and those that are left
+pub values_more : (ks : List ℕ) (i rest : ℕ) (vs vs' whole : List (Option ℕ)) → i < length ks
+    → vs' ≡ vs ++ from_part (rest % (get_or ks i 0 + 1)) ∷ []
+    → vs ++ values_from (drop i ks) rest ≡ whole
+    → vs' ++ values_from (drop (i + 1) ks) (rest / (get_or ks i 0 + 1)) ≡ whole
+values_more ks i rest vs vs' whole h grown inv =
+    ap (λ l. l ++ values_from (drop (i + 1) ks) (rest / (get_or ks i 0 + 1))) grown
+    ∙ append_assoc vs (from_part (rest % (get_or ks i 0 + 1)) ∷ []) (values_from (drop (i + 1) ks) (rest / (get_or ks i 0 + 1)))
+    ∙ sym (ap (λ l. vs ++ l) (at_drop_more (λ l. values_from l rest) ks i 0 h))
+    ∙ inv
+
+pub values_all : (ks : List ℕ) (i rest : ℕ) (vs whole : List (Option ℕ)) → length ks ≤ i
+    → vs ++ values_from (drop i ks) rest ≡ whole → vs ≡ whole
+values_all ks i rest vs whole h inv =
+    sym (append-nil vs) ∙ sym (ap (λ l. vs ++ l) (at_drop_all (λ l. values_from l rest) ks i h)) ∙ inv

@@ -1,0 +1,4 @@
+pub mod Objects
+pub mod Codes
+pub mod Weights
+pub mod Meanings

@@ -1,0 +1,70 @@
+// Whole objects by their codes, and codes by whole objects.
+ghost use Rattle.std.specs.Prelude.{◌≡◌, ◌<◌, IfSome, if◌then◌else◌, Some, None, nat_lt};
+ghost use Rattle.std.specs.Option.{option_map};
+ghost use Rattle.bounded.specs.Items.{items};
+ghost use Rattle.scheme.specs.Sizes.{size_states};
+ghost use Rattle.codes.specs.Objects.{object_fits};
+ghost use Rattle.codes.specs.Codes.{values_from, object_from, code};
+ghost use Rattle.codes.specs.Weights.{summed};
+ghost use Rattle.codes.specs.Meanings.{object_of, sizes_in};
+
+use super::Codes;
+use super::values::{part_of, value_of};
+use crate::object::{ObjectState, Values};
+use bounded::Bounded;
+
+impl Codes {
+    fn values_from(&self, sum: u32) -> Values
+        ensures { items result ≡ values_from (sizes_in self.now) sum }
+    {
+        let mut values = Bounded::new(None);
+        let mut rest = sum;
+        for size in self.sizes.as_slice() {
+            let parts = *size as u32 + 1;
+            values.push(value_of(rest % parts));
+            rest /= parts;
+        }
+        values
+    }
+
+    // The object that a code stands for; none where the number is no code.
+    pub fn object(&self, code: u32) -> Option<ObjectState>
+        ensures { option_map object_of result ≡ (if nat_lt code (size_states (sizes_in self.now)) then Some (object_from (sizes_in self.now) code) else None) }
+    {
+        if code >= self.radix {
+            return None;
+        }
+        match code {
+            0 => Some(ObjectState::Absent),
+            code => Some(ObjectState::There(self.values_from(code - 1))),
+        }
+    }
+
+    // The sum of the parts, each times its weight; none where the values are not those of an object.
+    fn weigh(&self, values: &[Option<u8>]) -> Option<u32>
+        ensures value { result ≡ summed 0 1 (sizes_in self.now) values.now }
+        ensures small { IfSome result (λ sum. sum < 1048576) }
+    {
+        if values.len() != self.sizes.as_slice().len() {
+            return None;
+        }
+        let mut sum = 0;
+        for (at, value) in values.iter().enumerate() {
+            if !self.fits(at as u8, *value) {
+                return None;
+            }
+            sum += part_of(*value) * self.weights[at];
+        }
+        Some(sum)
+    }
+
+    // The code of an object; none where it has not a value or null for each attribute.
+    pub fn code(&self, object: &ObjectState) -> Option<u32>
+        ensures { result ≡ (if object_fits (sizes_in self.now) (object_of object.now) then Some (code (sizes_in self.now) (object_of object.now)) else None) }
+    {
+        match object {
+            ObjectState::Absent => Some(0),
+            ObjectState::There(values) => Some(1 + self.weigh(values.as_slice())?),
+        }
+    }
+}

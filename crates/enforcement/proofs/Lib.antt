@@ -1,0 +1,6 @@
+mod Loops
+mod Simulation
+pub mod Fitting
+mod Holding
+mod Acting
+pub mod Agreement

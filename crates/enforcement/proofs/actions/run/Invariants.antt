@@ -1,0 +1,11 @@
+use Rattle.std.proofs.Common.{◌≡◌, drop}
+use Rattle.codes.specs.Meanings.{sizes_in}
+use Rattle.enforcement.specs.Actions.{ran}
+use Rattle.enforcement.specs.Coded.{Coded, on_codes}
+use Rattle.enforcement.proofs.actions.run.Given as goal
+
+-- what is left to run leads to the same end
+abbrev pub invariant-loop-action : goal.invariant-loop-action
+invariant-loop-action l =
+    (on_codes (sizes_in l.codes) (ran (sizes_in l.codes) (drop l.action-index l.actions)) l.pair ≡ on_codes (sizes_in l.codes) (ran (sizes_in l.codes) l.actions) l.initial.pair)
+    × Coded (sizes_in l.codes) l.pair

@@ -1,0 +1,6 @@
+pub mod Parties
+pub mod Predicates
+pub mod Actions
+pub mod Enforcement
+pub mod Relation
+pub mod Coded

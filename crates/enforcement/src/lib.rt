@@ -1,0 +1,15 @@
+// Policies enforced on a subject and an object, which are given by their codes.
+//
+// pair         the codes of a subject and an object
+// predicates   which predicates hold
+// actions      what an action makes of the two
+// policy       all predicates, then all actions in order
+#![tactic(auto)]
+
+pub mod actions;
+pub mod pair;
+pub mod policy;
+pub mod predicates;
+
+pub use pair::Pair;
+pub use policy::enforce;

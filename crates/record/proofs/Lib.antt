@@ -1,0 +1,10 @@
+pub mod Digits
+mod Powers
+mod MoveNumbers
+mod Turns
+mod Dimensions
+mod Accepting
+mod Exchanging
+mod Stepping
+pub mod Leading
+mod Closing

@@ -1,0 +1,21 @@
+-- Powers, one factor more at a time.
+use Rattle.std.proofs.Common.{◌≡◌, ℕ, suc, ◌+◌, ◌*◌, ◌^◌, ◌<◌, ◌≤◌, sym, ap, ◌∙◌, pow-suc, add-one, arith}
+use native.Mathlib.Nat.{pow-zero, pow-le-pow_right}
+
+pub pow_more : (b i p : ℕ) → p ≡ b ^ i → p * b ≡ b ^ (i + 1)
+pow_more b i p e = ap (λ n. n * b) e ∙ sym (pow-suc b i) ∙ ap (λ n. b ^ n) (sym (add-one i))
+
+pub pow_none : (b : ℕ) → 1 ≡ b ^ 0
+pow_none b = sym (pow-zero b)
+
+pub pow_le : (b i n : ℕ) → 0 < b → i ≤ n → b ^ i ≤ b ^ n
+pow_le b i n pos h = pow-le-pow_right pos h
+
+pub pow_pos : (b i : ℕ) → 0 < b → 0 < b ^ i
+pow_pos b i pos = omega (arith, pow_le b 0 i pos (omega arith), pow-zero b)
+
+-- a base is at most its power
+pub base_le : (b n : ℕ) → 0 < b → 0 < n → b ≤ b ^ n
+base_le b n pos h =
+    let one : b ^ 1 ≡ b = pow-suc b 0 ∙ ap (λ x. x * b) (pow-zero b) ∙ omega arith in
+    omega (arith, pow_le b 1 n pos h, one)

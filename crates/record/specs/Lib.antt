@@ -1,0 +1,9 @@
+pub mod States
+pub mod Moves
+pub mod Accepted
+pub mod Systems
+pub mod Relation
+pub mod Places
+pub mod Numberings
+pub mod Schemes
+pub mod SystemLaws

@@ -1,0 +1,39 @@
+// One object of a state, as a digit of the state's number.
+ghost use Rattle.std.specs.Prelude.{◌≡◌, ◌/◌, ◌%◌, ◌^◌, ◌<◌, slice_set};
+ghost use Rattle.scheme.specs.Sizes.{size_states};
+ghost use Rattle.codes.specs.Codes.{object_from};
+ghost use Rattle.codes.specs.Meanings.{sizes_in};
+ghost use Rattle.record.specs.States.{number, state_from};
+ghost use Rattle.record.specs.Numberings.{dimensions_of};
+
+use super::Numbering;
+use codes::Codes;
+
+impl Numbering {
+    pub(crate) fn codes(&self) -> &Codes
+        ensures { sizes_in result.now ≡ (dimensions_of self.now).sizes }
+    {
+        &self.codes
+    }
+
+    // The code of an object in a state.
+    pub(crate) fn code_at(&self, state: u32, object: u8) -> u32
+        requires { object < (dimensions_of self.now).objects }
+        ensures { result ≡ state / size_states (dimensions_of self.now).sizes ^ object % size_states (dimensions_of self.now).sizes }
+    {
+        state / self.places[object as usize] % self.codes.radix()
+    }
+
+    // The state with another code in the place of an object's.
+    pub(crate) fn exchange(&self, state: u32, object: u8, old: u32, new: u32) -> u32
+        requires state { state < size_states (dimensions_of self.now).sizes ^ (dimensions_of self.now).objects }
+        requires object { object < (dimensions_of self.now).objects }
+        requires old { old ≡ state / size_states (dimensions_of self.now).sizes ^ object % size_states (dimensions_of self.now).sizes }
+        requires new { new < size_states (dimensions_of self.now).sizes }
+        ensures value { result ≡ number (dimensions_of self.now).sizes (slice_set (state_from (dimensions_of self.now).sizes (dimensions_of self.now).objects state) object (object_from (dimensions_of self.now).sizes new)) }
+        ensures below { result < size_states (dimensions_of self.now).sizes ^ (dimensions_of self.now).objects }
+    {
+        let place = self.places[object as usize];
+        state - old * place + new * place
+    }
+}
