@@ -1,2 +1,3 @@
 mod Numbered
 mod Evidence
+mod Sound

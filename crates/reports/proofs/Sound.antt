@@ -11,7 +11,9 @@ use Rattle.scheme.specs.declared.terms.Clause.{Clause}
 use Rattle.scheme.specs.declared.terms.Clause.TheVariants as clause
 use Rattle.scheme.specs.Names.{index_from, index_of}
 use Rattle.scheme.specs.Models.{AttributeModel, ObjectModel, PolicyModel, SchemeModel, filled, last_filled}
-use Rattle.scheme.specs.Counts.{sizes_of, object_states, state_count}
+use Rattle.scheme.specs.Counts.{state_count}
+use Rattle.scheme.specs.Sizes.{sizes_of, size_states}
+use Rattle.scheme.proofs.Sizes.{state_count_sizes}
 use Rattle.scheme.specs.WellFormed.{value_fits, values_fit, objects_fit, rights_fit, well_formed}
 use Rattle.record.specs.Accepted.{accepted}
 use Rattle.words.specs.Positions.{PlainLine, PlainWord, spot_of, word_in}
@@ -89,12 +91,12 @@ form_fits k (term p a) h = refl
 form_fits k (operator o) h = refl
 form_fits k other h = refl
 
-values_fit : (ws : List PlainWord) (i : ℕ) (al : List AttributeModel) → ((j : ℕ) → j < length al → value_fits (get_or (map (λ (a : AttributeModel). a.size) al) j 0) (value_in (word_in ws (i + j))) ≡ true) → values_fit (map (λ (a : AttributeModel). a.size) al) (values_at i al ws) ≡ true
-values_fit ws i [] h = refl
-values_fit ws i (a ∷ al) h =
+line_values_fit : (ws : List PlainWord) (i : ℕ) (al : List AttributeModel) → ((j : ℕ) → j < length al → value_fits (get_or (map (λ (a : AttributeModel). a.size) al) j 0) (value_in (word_in ws (i + j))) ≡ true) → values_fit (map (λ (a : AttributeModel). a.size) al) (values_at i al ws) ≡ true
+line_values_fit ws i [] h = refl
+line_values_fit ws i (a ∷ al) h =
     and_from (value_fits a.size (value_in (word_in ws i))) (values_fit (map (λ (a : AttributeModel). a.size) al) (values_at (i + 1) al ws))
     (ap (λ k. value_fits a.size (value_in (word_in ws k))) (sym (add-zero i)) ∙ h 0 (omega arith))
-    (values_fit ws (i + 1) al (λ j less. let at : i + 1 + j ≡ i + suc j = omega arith in ap (λ k. value_fits (get_or (map (λ (a : AttributeModel). a.size) al) j 0) (value_in (word_in ws k))) at ∙ h (suc j) (omega arith)))
+    (line_values_fit ws (i + 1) al (λ j less. let at : i + 1 + j ≡ i + suc j = omega arith in ap (λ k. value_fits (get_or (map (λ (a : AttributeModel). a.size) al) j 0) (value_in (word_in ws k))) at ∙ h (suc j) (omega arith)))
 
 -- a line without a fault
 
@@ -135,7 +137,7 @@ module _ (p : Progress) (l : PlainLine) (faultless : Faultless p l) where
 
   values_sound : Opens l kind.Object → values_fit (sizes_of m) (values_at 2 m.attributes ws) ≡ true
   unfolding size_at
-  values_sound opened = values_fit ws 2 m.attributes (λ j less. form_fits (get_or (sizes_of m) j 0) (form_of (word_in ws (2 + j)).bytes) (λ v is. value_below opened j v less is))
+  values_sound opened = line_values_fit ws 2 m.attributes (λ j less. form_fits (get_or (sizes_of m) j 0) (form_of (word_in ws (2 + j)).bytes) (λ v is. value_below opened j v less is))
 
   right_found : Opens l kind.Policy → is_some (index_of (word_in ws 2).bytes m.rights) ≡ true
   right_found opened =
@@ -191,18 +193,19 @@ power_above x n some h =
     let more = pow-le-pow_right {n = x} some {i = 1} {j = n} h in omega arith
 
 module _ (m : SchemeModel) (formed : well_formed m ≡ true) (whole : complete m ≡ true) where
-  few_each : state_count m ≤ 1048576 → object_states (sizes_of m) ≤ 1048576
+  few_each : state_count m ≤ 1048576 → size_states (sizes_of m) ≤ 1048576
   few_each few =
       let parts = and_parts (leb 1 (length m.attributes)) _ whole in
       let some = leb-true 1 (length m.objects) (and_parts (leb 1 (length m.rights)) (leb 1 (length m.objects)) parts.1).1 in
-      let more = power_above (object_states (sizes_of m)) (length m.objects) (omega arith) some in omega arith
+      let more = power_above (size_states (sizes_of m)) (length m.objects) (omega arith) some in
+      omega (arith, state_count_sizes m)
 
   pub accepted_few : accepted m ≡ few_states m
-  accepted_few = ap (λ b. b && (leb (object_states (sizes_of m)) 1048576 && few_states m)) formed ∙ few (few_states m) refl
+  accepted_few = ap (λ b. b && (leb (size_states (sizes_of m)) 1048576 && few_states m)) formed ∙ few (few_states m) refl
     where
-      few : (b : Bool) → few_states m ≡ b → (leb (object_states (sizes_of m)) 1048576 && b) ≡ b
-      few true h = and_from (leb (object_states (sizes_of m)) 1048576) true (le-leb (object_states (sizes_of m)) 1048576 (few_each (leb-true (state_count m) 1048576 h))) refl
-      few false h = and_right (leb (object_states (sizes_of m)) 1048576) false refl
+      few : (b : Bool) → few_states m ≡ b → (leb (size_states (sizes_of m)) 1048576 && b) ≡ b
+      few true h = and_from (leb (size_states (sizes_of m)) 1048576) true (le-leb (size_states (sizes_of m)) 1048576 (few_each (leb-true (state_count m) 1048576 h))) refl
+      few false h = and_right (leb (size_states (sizes_of m)) 1048576) false refl
 
 -- the scheme of every accepted text is accepted
 pub reading_accepted : (text : List ℕ) (m : SchemeModel) → reading text ≡ Ok m → accepted m ≡ true

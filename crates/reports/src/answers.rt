@@ -107,7 +107,7 @@ pub(crate) fn put_answer<S: System>(
     requires marks_size { length marks.old ≡ 4096 }
     requires found_size { length found.old ≡ 4096 }
     requires witness_size { length witness.old ≡ 4096 }
-    ensures { Appended result out.old out.new (answer_lines (draft_of draft.now) (meaning S.Walk S.System system.now) query) }
+    ensures { Appended result out.old out.new (answer_lines (draft_of draft.now) (meaning S.Walk S.System.own system.now) query) }
 {
     match confirm(system, permission_asked(query), marks, found, witness) {
         Ok(verdict) => put_evidence(out, draft, query, verdict, witness),

@@ -6,6 +6,8 @@
 // answers  the lines that answer a query
 // whole    the lines of a whole report
 // output   what is printed of a text
+#![tactic(auto)]
+
 mod answers;
 mod moves;
 mod names;

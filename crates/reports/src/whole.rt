@@ -17,7 +17,7 @@ use walk::Found;
 const ENTRIES: usize = 4096;
 
 fn put_counts<S: System>(out: &mut Vec<u8>, system: &S) -> Result<(), AllocError>
-    ensures { Appended result out.old out.new (scheme_line (meaning S.Walk S.System system.now)) }
+    ensures { Appended result out.old out.new (scheme_line (meaning S.Walk S.System.own system.now)) }
 {
     let states = system.states() as u64;
     let moves = system.moves() as u64;
@@ -26,7 +26,7 @@ fn put_counts<S: System>(out: &mut Vec<u8>, system: &S) -> Result<(), AllocError
 
 // The answer to each query, with the same three tables for all.
 fn put_answers<S: System>(out: &mut Vec<u8>, system: &S, draft: &Draft) -> Result<(), AllocError>
-    ensures { Appended result out.old out.new (flat_map (answer_lines (draft_of draft.now) (meaning S.Walk S.System system.now)) (draft_of draft.now).queries) }
+    ensures { Appended result out.old out.new (flat_map (answer_lines (draft_of draft.now) (meaning S.Walk S.System.own system.now)) (draft_of draft.now).queries) }
 {
     let mut marks = [0u32; ENTRIES];
     let nothing = Found {
@@ -53,7 +53,7 @@ fn put_answers<S: System>(out: &mut Vec<u8>, system: &S, draft: &Draft) -> Resul
 
 // All that is reported of a system whose names and queries a draft has.
 pub fn put_report<S: System>(out: &mut Vec<u8>, system: &S, draft: &Draft) -> Result<(), AllocError>
-    ensures { Appended result out.old out.new (report_lines (draft_of draft.now) (meaning S.Walk S.System system.now)) }
+    ensures { Appended result out.old out.new (report_lines (draft_of draft.now) (meaning S.Walk S.System.own system.now)) }
 {
     put_counts(out, system)?;
     put_answers(out, system, draft)

@@ -10,14 +10,14 @@ use Rattle.reports.specs.Moves.{by_line}
 use Rattle.reports.specs.Answers.{verdict_line}
 use Rattle.reports.proofs.answers.put_evidence.Goals as goal
 
-pub returns-in-err-put_verdict : goal.returns-in-err-put_verdict
-returns-in-err-put_verdict c =
-    at_exit _ _ _ _ c.from-residual.ensures.0
-    (short_first _ _ (verdict_line (draft_of c.args.draft.now) c.args.query (verdict_values c.args.verdict)) _ c.in-err-put_verdict.ensures)
+pub returns-in_err-put_verdict : goal.returns-in_err-put_verdict
+returns-in_err-put_verdict c =
+    at_exit _ _ _ _ c.from_residual.ensures.0
+    (short_first _ _ (verdict_line (draft_of c.args.draft.now) c.args.query (verdict_values c.args.verdict)) _ c.in_err-put_verdict.ensures)
 
 pub returns : goal.returns
 returns c =
     let m : SchemeModel = draft_of c.args.draft.now in
-    appended_then _ _ _ _ (verdict_line m c.args.query (verdict_values c.args.verdict)) _ c.in-ok-put_verdict.ensures
+    appended_then _ _ _ _ (verdict_line m c.args.query (verdict_values c.args.verdict)) _ c.in_ok-put_verdict.ensures
     (subst (λ (moves : List ℕ). Appended c.put_moves.result c.put_verdict.new.out c.put_moves.new.out (flat_map (by_line m) moves))
     c.witness_in.ensures c.put_moves.ensures)

@@ -1,13 +1,15 @@
-use Rattle.std.proofs.Common.{◌≡◌, ℕ, List, Ok, sym, ap, ◌∙◌, subst}
-use Rattle.record.specs.Schemes.{scheme_of}
-use Rattle.record.specs.Systems.{scheme_system}
+use Rattle.std.proofs.Common.{ℕ, List, Ok, sym, ap, ◌∙◌, subst}
+use Rattle.record.specs.Accepted.{accepted}
 use Rattle.render.specs.Appended.{Appended}
-use Rattle.reports.specs.Reports.{report_lines, output_of}
+use Rattle.reports.specs.Reports.{output_of}
+use Rattle.reports.proofs.Sound.{reading_accepted}
 use Rattle.reports.proofs.output.annex.Goals as goal
+
+pub put_declared-requires : goal.put_declared-requires
+put_declared-requires c = ap accepted c.draft.ensures ∙ reading_accepted c.args.text.now _ (sym c.in-Ok.ensures.result)
 
 pub returns-in-Ok : goal.returns-in-Ok
 returns-in-Ok c =
-    let m = scheme_of c.read.new.scheme in
-    subst (λ (bytes : List ℕ). Appended c.put_report.result c.args.out.now c.put_report.new.out bytes)
-    (ap (λ d. report_lines d (scheme_system m)) c.draft.ensures ∙ ap output_of c.in-Ok.ensures.result)
-    c.put_report.ensures
+    subst (λ (bytes : List ℕ). Appended c.put_declared.result c.args.out.now c.put_declared.new.out bytes)
+    (ap (λ d. output_of (Ok d)) c.draft.ensures ∙ ap output_of c.in-Ok.ensures.result)
+    c.put_declared.ensures

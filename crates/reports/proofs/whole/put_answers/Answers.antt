@@ -9,21 +9,21 @@ use Rattle.render.proofs.Appending.{at_exit, short_at, grown_more, grown_all}
 use Rattle.reports.specs.Answers.{answer_lines}
 use Rattle.reports.proofs.whole.put_answers.Goals as goal
 
-pub returns-in-err-put_answer : goal.returns-in-err-put_answer
-returns-in-err-put_answer g c =
+pub returns-in_err-put_answer : goal.returns-in_err-put_answer
+returns-in_err-put_answer g c =
     let lines : Query → List ℕ = answer_lines (draft_of c.args.draft.now)
     (system_of (g.S.Walk.model c.args.system.now) (g.S.System.labels c.args.system.now)) in
-    at_exit _ _ _ _ c.from-residual.ensures.0
+    at_exit _ _ _ _ c.from_residual.ensures.0
     (subst (λ (qs : List Query). Short c.args.out.now c.put_answer.new.out (flat_map lines qs)) c.queries-queries.ensures.list
     (short_at lines c.queries-queries.result.now c.loop-query.query-index (record { subject = 0; object = 0; right = 0 }) _
-    c.args.out.now c.loop-query.out c.put_answer.new.out refl (omega arith) c.loop-query.invariant.0 c.in-err-put_answer.ensures))
+    c.args.out.now c.loop-query.out c.put_answer.new.out refl (omega arith) c.loop-query.invariant.0 c.in_err-put_answer.ensures))
 
 pub loop-query-preserved : goal.loop-query-preserved
 loop-query-preserved g c =
     let lines : Query → List ℕ = answer_lines (draft_of c.args.draft.now)
     (system_of (g.S.Walk.model c.args.system.now) (g.S.System.labels c.args.system.now)) in (
       grown_more lines c.queries-queries.result.now c.loop-query.query-index (record { subject = 0; object = 0; right = 0 }) _
-          c.args.out.now c.loop-query.out c.put_answer.new.out refl (omega arith) c.loop-query.invariant.0 c.in-ok-put_answer.ensures,
+          c.args.out.now c.loop-query.out c.put_answer.new.out refl (omega arith) c.loop-query.invariant.0 c.in_ok-put_answer.ensures,
       search rules,
       search rules,
       search rules,
