@@ -1,9 +1,11 @@
 // Reads many texts from standard input, each behind its length on a line of its own, and prints the
 // report of each.
+#![tactic(auto)]
+
 ghost use Rattle.std.specs.Prelude.{◌≡◌, ◌+◌, ◌<◌, ◌≤◌, length, IfSome};
 
 use input::read_up_to;
-use report::annex;
+use reports::annex;
 use std::io;
 use std::io::Write;
 

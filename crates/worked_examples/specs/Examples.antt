@@ -14,7 +14,8 @@ use Rattle.scheme.specs.declared.terms.Comparison.TheVariants.{NotEqual}
 use Rattle.scheme.specs.declared.terms.Action.{Action}
 use Rattle.scheme.specs.declared.terms.Action.TheVariants.{Assign, Add, Sub}
 use Rattle.scheme.specs.Models.{SchemeModel}
-use Rattle.scheme.specs.Counts.{sizes_of, object_states, state_count}
+use Rattle.scheme.specs.Counts.{state_count}
+use Rattle.scheme.specs.Sizes.{sizes_of, size_states}
 use Rattle.codes.specs.Objects.{ObjectState, there}
 use Rattle.enforcement.specs.declared.predicates.Operator.TheVariants.{Compare}
 use Rattle.enforcement.specs.Parties.{Parties}
@@ -25,7 +26,7 @@ use Rattle.record.specs.Systems.{object_count, start_state, step_of}
 use Rattle.text.specs.declared.fault.SchemeFault.{SchemeFault}
 use Rattle.text.specs.Faults.{scheme_report}
 use Rattle.text.specs.Reading.{reading}
-use Rattle.report.specs.Reports.{annex_output}
+use Rattle.reports.specs.Reports.{annex_output}
 use Rattle.worked_examples.specs.Texts.{meter, meter_report, most, too_many}
 
 -- the text is accepted, and of the scheme that it declares this holds
@@ -75,7 +76,7 @@ pub record WorkedExamples : Type 0 where
   -- the second assignment reads what the first one wrote
   pub assigned_in_turn : ran (2 ∷ []) (Assign (only Subject) (ObjectAttribute 0) ∷ Assign (only Object) (SubjectAttribute 0) ∷ []) (having 1 0) ≡ Some (having 0 0)
   pub most_states : Declares most (λ m. state_count m ≡ 1048576)
-  pub more_states : object_states (31 ∷ 31 ∷ []) ^ 2 ≡ 1050625
+  pub more_states : size_states (31 ∷ 31 ∷ []) ^ 2 ≡ 1050625
   pub more_are_refused : Refuses too_many 25
   pub table_leaks : asked 0 1 0 ≡ Ok (record { leaks = true; found = 1; tried = 1; length = 1 })
   pub table_never : asked 1 0 0 ≡ Ok (record { leaks = false; found = 2; tried = 2; length = 0 })

@@ -1,10 +1,12 @@
 // The worked examples of the documents, as one statement about the definitions; and texts too long to
 // stand in a file of cases.
+#![tactic(auto)]
+
 ghost use Rattle.render.specs.Appended.{Appended};
 ghost use Rattle.worked_examples.specs.Texts.{meter_report};
 ghost use Rattle.worked_examples.specs.Examples.{WorkedExamples};
 
-use report::annex;
+use reports::annex;
 use std::alloc::AllocError;
 
 // Appends the report of the meter's text. `examples`: all worked examples hold.

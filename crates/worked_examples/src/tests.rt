@@ -1,5 +1,5 @@
 // Texts too long to stand in a file of cases.
-use report::annex;
+use reports::annex;
 use std::alloc::Global;
 use std::test::Fail;
 
