@@ -1,6 +1,5 @@
 -- Worked examples, as facts about the definitions.
-use Rattle.std.specs.Prelude.{◌≡◌, ℕ, ◌^◌, true, false, List, [], ◌∷◌, Some, None, Ok, Err, Option, Result}
-use Rattle.protection.specs.declared.permission.Permission.{Permission}
+use Rattle.std.specs.Prelude.{◌≡◌, ℕ, ◌^◌, true, false, List, [], ◌∷◌, Some, None, Ok, Err, Result}
 use Rattle.protection.specs.Systems.{System, system_of}
 use Rattle.protection.specs.Refusals.{Refused}
 use Rattle.protection.specs.Answers.{Said}
@@ -11,12 +10,11 @@ use Rattle.scheme.specs.declared.terms.Party.TheVariants.{Subject, Object}
 use Rattle.scheme.specs.declared.terms.Term.{Term}
 use Rattle.scheme.specs.declared.terms.Operand.TheVariants.{SubjectAttribute, ObjectAttribute}
 use Rattle.scheme.specs.declared.terms.Comparison.TheVariants.{NotEqual}
-use Rattle.scheme.specs.declared.terms.Action.{Action}
 use Rattle.scheme.specs.declared.terms.Action.TheVariants.{Assign, Add, Sub}
 use Rattle.scheme.specs.Models.{SchemeModel}
 use Rattle.scheme.specs.Counts.{state_count}
 use Rattle.scheme.specs.Sizes.{sizes_of, size_states}
-use Rattle.codes.specs.Objects.{ObjectState, there}
+use Rattle.codes.specs.Objects.{there}
 use Rattle.enforcement.specs.declared.predicates.Operator.TheVariants.{Compare}
 use Rattle.enforcement.specs.Parties.{Parties}
 use Rattle.enforcement.specs.Predicates.{meets}

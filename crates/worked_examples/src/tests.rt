@@ -21,14 +21,17 @@ fn longest_and_longer(rt: HostRuntime) -> Result<(), Fail> {
     let heap = rt.alloc();
     let lines = printed(heap, 65_535, b'\n', b'\n')?;
     assert!(rt;
-        lines.as_slice() == b"refused 24 65536 1\n",
+        lines.as_slice() == b"refused 24 65536 1\n".as_slice(),
         "the most lines"
     );
     let more = printed(heap, 65_536, b'\n', b'\n')?;
-    assert!(rt; more.as_slice() == b"refused 4 0 0\n", "one more");
+    assert!(rt;
+        more.as_slice() == b"refused 4 0 0\n".as_slice(),
+        "one more"
+    );
     let tabs = printed(heap, 65_536, b'\t', b'\t')?;
     assert!(rt;
-        tabs.as_slice() == b"refused 4 0 0\n",
+        tabs.as_slice() == b"refused 4 0 0\n".as_slice(),
         "length before bytes"
     );
     Ok(())
@@ -38,10 +41,19 @@ fn longest_and_longer(rt: HostRuntime) -> Result<(), Fail> {
 fn one_long_line(rt: HostRuntime) -> Result<(), Fail> {
     let heap = rt.alloc();
     let words = printed(heap, 65_535, b'a', b' ')?;
-    assert!(rt; words.as_slice() == b"refused 10 1 1\n", "the most words");
+    assert!(rt;
+        words.as_slice() == b"refused 10 1 1\n".as_slice(),
+        "the most words"
+    );
     let spaces = printed(heap, 65_535, b' ', b' ')?;
-    assert!(rt; spaces.as_slice() == b"refused 24 2 1\n", "no word");
+    assert!(rt;
+        spaces.as_slice() == b"refused 24 2 1\n".as_slice(),
+        "no word"
+    );
     let word = printed(heap, 65_535, b'a', b'a')?;
-    assert!(rt; word.as_slice() == b"refused 2 1 1\n", "one word");
+    assert!(rt;
+        word.as_slice() == b"refused 2 1 1\n".as_slice(),
+        "one word"
+    );
     Ok(())
 }
