@@ -1,10 +1,14 @@
 // The analysis of a text's query, for C to call: bench/ measures it.
-ghost use Rattle.std.specs.Prelude.{◌≡◌, length};
+#![tactic(auto)]
+
+ghost use Rattle.std.specs.Prelude.{◌≡◌, true, length};
 ghost use Rattle.std.specs.List.{slice_get};
 ghost use Rattle.std.specs.Option.{option_map};
 ghost use Rattle.protection.specs.Answers.{told};
 ghost use Rattle.protection.specs.Meaning.{meaning};
 ghost use Rattle.record.specs.Systems.{permission_asked};
+ghost use Rattle.scheme.specs.Drafts.{draft_of};
+ghost use Rattle.record.specs.Accepted.{accepted};
 ghost use Rattle.record.specs.Schemes.{scheme_of};
 ghost use Rattle.bench_entry.specs.Questions.{asked_by, asks, reply, number_of, answer_left, marks_left, found_left, witness_left};
 
@@ -13,6 +17,8 @@ pub mod answer;
 use answer::Answer;
 use protection::{Permission, Refusal, System, Verdict, analyse};
 use record::{Scheme, permission_asked};
+use scheme::draft::Draft;
+use scheme::record::Scheme as Declared;
 use text::read::read;
 use walk::Found;
 
@@ -33,14 +39,26 @@ pub extern "C" fn bench_analyse(
     ensures found { found.new ≡ found_left (asked_by text.now query) result found.old }
     ensures witness { witness.new ≡ witness_left (asked_by text.now query) result witness.old }
 {
-    let mut scheme = Scheme::bare();
-    if let Err(fault) = read(&mut scheme, text) {
+    let mut declared = Declared::bare();
+    if let Err(fault) = read(&mut declared, text) {
         return fault.report().number;
     }
+    let scheme = record_of(*declared.draft());
     let Some(q) = asked(&scheme, query) else {
         return Refusal::OutOfCounts.number();
     };
     ask(&scheme, q, marks, found, witness, answer)
+}
+
+// The scheme record of what a text declares, which is always accepted.
+fn record_of(draft: Draft) -> Scheme
+    requires { accepted (draft_of draft) ≡ true }
+    ensures { scheme_of result ≡ draft_of draft }
+{
+    match Scheme::of(draft) {
+        Some(scheme) => scheme,
+        None => unreachable(),
+    }
 }
 
 // The permission that a query asks about.
@@ -64,11 +82,11 @@ fn ask<S: System>(
     witness: &mut [u32],
     answer: &mut Answer,
 ) -> u32
-    ensures number { result ≡ number_of (reply (asks (meaning S.Walk S.System system.now) q) (length marks.old) (length found.old) (length witness.old)) }
-    ensures answer { answer.new ≡ answer_left (reply (asks (meaning S.Walk S.System system.now) q) (length marks.old) (length found.old) (length witness.old)) answer.old }
-    ensures marks { marks.new ≡ marks_left (asks (meaning S.Walk S.System system.now) q) result marks.old }
-    ensures found { found.new ≡ found_left (asks (meaning S.Walk S.System system.now) q) result found.old }
-    ensures witness { witness.new ≡ witness_left (asks (meaning S.Walk S.System system.now) q) result witness.old }
+    ensures number { result ≡ number_of (reply (asks (meaning S.Walk S.System.own system.now) q) (length marks.old) (length found.old) (length witness.old)) }
+    ensures answer { answer.new ≡ answer_left (reply (asks (meaning S.Walk S.System.own system.now) q) (length marks.old) (length found.old) (length witness.old)) answer.old }
+    ensures marks { marks.new ≡ marks_left (asks (meaning S.Walk S.System.own system.now) q) result marks.old }
+    ensures found { found.new ≡ found_left (asks (meaning S.Walk S.System.own system.now) q) result found.old }
+    ensures witness { witness.new ≡ witness_left (asks (meaning S.Walk S.System.own system.now) q) result witness.old }
 {
     tell(analyse(system, q, marks, found, witness), answer)
 }

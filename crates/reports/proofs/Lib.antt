@@ -1,3 +1,3 @@
 mod Numbered
 mod Evidence
-mod Sound
+pub mod Sound
