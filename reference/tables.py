@@ -7,7 +7,7 @@ Makes the cases of crates/table_cases and what the program must print:
     reference/tables.py cases  > crates/table_cases/stdin
     reference/tables.py answer < crates/table_cases/stdin > crates/table_cases/stdout
 
-And compares the program with these rules on random cases, after `rt check table_cases` has built it:
+And compares the program with these rules on random cases, after `rt run` in crates/table_cases has built it:
 
     reference/tables.py compare COUNT SEED
 """
@@ -304,7 +304,7 @@ def compare(count, seed):
     """Stops at the first hundred cases of which the program prints something else."""
     for begun in range(0, count, 100):
         text = "".join("\n".join(case) + "\n" for case in random_cases(100, seed + begun, most=40))
-        printed = subprocess.run(["target/bin/table_cases"], input=text, capture_output=True, text=True, check=True).stdout
+        printed = subprocess.run(["crates/table_cases/out/table_cases"], input=text, capture_output=True, text=True, check=True).stdout
         if printed != "".join(line + "\n" for line in answer(text.splitlines())):
             sys.exit("differs on the cases with seed %d" % (seed + begun))
     print("%d cases, no difference" % count)

@@ -9,7 +9,7 @@ use walk::Walk;
 pub trait System: Walk {
     ghost labels: { Self → Labels };
 
-    // a member and no law: an impl with a lifetime parameter cannot prove a law
+    // a member whose type is the fact, as a law would be
     ghost counts: { (s : Self) → Counts (labels s) };
 
     fn objects(&self) -> u32

@@ -55,7 +55,8 @@ fn are_counts_out(states: u32, moves: u32, objects: u32, rights: u32) -> bool
 
 // The lengths are compared in 64 bits, since states times moves may need 33.
 fn are_lengths_out(states: u32, moves: u32, labels: usize, entries: usize) -> bool
-    requires { (states ≤ 1048576) × (moves ≤ 4096) }
+    requires few_states { states ≤ 1048576 }
+    requires few_moves { moves ≤ 4096 }
     ensures { result ≡ lengths_out states moves labels entries }
 {
     labels != 3 * moves as usize || entries != states as usize * moves as usize

@@ -1,12 +1,12 @@
 // Walks and the goals of a search, by what they mean.
 ghost use Rattle.std.specs.Prelude.{◌≡◌, ℕ, Bool};
-ghost use Rattle.walk.specs.Walks.{Walk as walk_model, Bounds};
+ghost use Rattle.walk.specs.Walks.{Walk as WalkModel, Bounds};
 
 // A walk: its model is within the bounds, and every question is answered by the model.
 pub trait Walk {
-    ghost model: { Self → walk_model };
+    ghost model: { Self → WalkModel };
 
-    // a member and no law: an impl with a lifetime parameter cannot prove a law
+    // a member whose type is the fact, as a law would be
     ghost bounds: { (w : Self) → Bounds (model w) };
 
     fn states(&self) -> u32

@@ -1,7 +1,9 @@
 // What a search writes and answers.
 
 // A record of the found list: a state, the place of the state it was found from, and the move.
+// Laid out as in C, so that a caller in C can lend the table.
 #[derive(Clone, Copy)]
+#[repr(C)]
 pub struct Found {
     pub state: u32,
     pub parent: u32,
