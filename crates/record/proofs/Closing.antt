@@ -1,5 +1,5 @@
 -- Enforcement leads from states to states: every step stays below the count of states.
-use Rattle.std.proofs.Common.{◌≡◌, ℕ, zero, suc, ◌<◌, Bool, true, false, cond, ◌&&◌, eqb, ltb, List, [], ◌∷◌, length, get_or, set, Some, None, Option, sym, refl, ap, ◌∙◌, subst}
+use Rattle.std.proofs.Common.{◌≡◌, ℕ, zero, suc, ◌<◌, Bool, true, false, cond, eqb, List, [], ◌∷◌, length, get_or, set, Some, None, Option, refl, ◌∙◌, subst}
 use Rattle.std.proofs.lemmas.List.{length-set}
 use Rattle.std.proofs.lemmas.Bool.{and_parts, and_from, eqb-true, eq-eqb}
 use Rattle.std.specs.Option.{option_map}
@@ -8,7 +8,7 @@ use Rattle.scheme.specs.Sizes.{sizes_of}
 use Rattle.scheme.specs.Counts.{state_count}
 use Rattle.scheme.specs.declared.terms.Predicate.{Predicate}
 use Rattle.scheme.specs.declared.terms.Action.{Action}
-use Rattle.codes.specs.Objects.{ObjectState, absent, object_fits}
+use Rattle.codes.specs.Objects.{absent, object_fits}
 use Rattle.enforcement.specs.Parties.{Parties}
 use Rattle.enforcement.specs.Enforcement.{State, enforced_on, placed, enforced}
 use Rattle.enforcement.proofs.Fitting.{none_some, fits_enforced}

@@ -1,5 +1,5 @@
 -- The numbers of states, digit by digit: states and the numbers below their count correspond one to one.
-use Rattle.std.proofs.Common.{◌≡◌, ℕ, zero, suc, ◌+◌, ◌*◌, ◌/◌, ◌%◌, ◌^◌, ◌<◌, ◌≤◌, true, ◌&&◌, eqb, List, [], ◌∷◌, length, sym, refl, ap, ◌∙◌, mul_assoc, mul_comm, add-mul, pow-suc, div-add-mod', mul-one, add-one, arith}
+use Rattle.std.proofs.Common.{◌≡◌, ℕ, zero, suc, ◌+◌, ◌*◌, ◌/◌, ◌%◌, ◌^◌, ◌<◌, true, eqb, List, [], ◌∷◌, length, sym, refl, ap, ◌∙◌, mul_assoc, mul_comm, add-mul, pow-suc, div-add-mod', mul-one, add-one, arith}
 use native.Mathlib.Nat.{pow-zero}
 use lib.Arith.{digits_lt, digits_div, digits_mod}
 use Rattle.std.proofs.lemmas.Nat.{div_below, mod_below}
@@ -8,8 +8,8 @@ use Rattle.scheme.specs.Models.{SchemeModel}
 use Rattle.scheme.specs.Sizes.{sizes_of, size_states}
 use Rattle.scheme.specs.Counts.{state_count}
 use Rattle.scheme.proofs.Sizes.{state_count_sizes}
-use Rattle.codes.specs.Objects.{ObjectState, object_fits}
-use Rattle.codes.specs.Codes.{code, object_from}
+use Rattle.codes.specs.Objects.{object_fits}
+use Rattle.codes.specs.Codes.{code}
 use Rattle.codes.proofs.Digits.{code_below, object_code, code_object, fits_object}
 use Rattle.enforcement.specs.Enforcement.{State}
 use Rattle.record.specs.States.{all_fit, state_fits, number_from, number, state_from, Corresponds}

@@ -1,5 +1,5 @@
 -- One object of a state, as a digit of the state's number.
-use Rattle.std.proofs.Common.{◌≡◌, ℕ, zero, suc, ◌+◌, ◌-◌, ◌*◌, ◌/◌, ◌%◌, ◌^◌, ◌<◌, ◌≤◌, true, ◌&&◌, ◌≢◌, List, [], ◌∷◌, length, get_or, set, sym, refl, ap, ◌∙◌, subst, mul-le-mul_right, mul_assoc, add-mul, mul-lt-mul_of_pos_right, pow-suc, mul-one, div-mul-le_self, div-one, arith}
+use Rattle.std.proofs.Common.{◌≡◌, ℕ, zero, suc, ◌+◌, ◌-◌, ◌*◌, ◌/◌, ◌%◌, ◌^◌, ◌<◌, ◌≤◌, true, ◌≢◌, List, [], ◌∷◌, length, get_or, set, sym, refl, ap, ◌∙◌, subst, mul-le-mul_right, mul_assoc, add-mul, pow-suc, mul-one, div-mul-le_self, div-one, arith}
 use native.Mathlib.Nat.{pow-succ', pow-zero, div-div-eq-div-mul, mod-le}
 use Rattle.std.proofs.lemmas.Nat.{mod_below}
 use Rattle.std.proofs.lemmas.List.{length-set, get_or-set_other}
@@ -7,11 +7,10 @@ use Rattle.std.proofs.lemmas.Bool.{and_parts, and_from, eq-eqb}
 use Rattle.scheme.specs.Sizes.{size_states}
 use Rattle.codes.specs.Objects.{ObjectState, absent, object_fits}
 use Rattle.codes.specs.Codes.{code, object_from}
-use Rattle.codes.proofs.Digits.{code_below, code_object, fits_object}
+use Rattle.codes.proofs.Digits.{code_object, fits_object}
 use Rattle.enforcement.specs.Enforcement.{State}
-use Rattle.record.specs.States.{all_fit, state_fits, number, state_from}
+use Rattle.record.specs.States.{all_fit, number, state_from}
 use Rattle.record.proofs.Digits.{horner, number_horner, horner_below, horner_state, fit_state, length_state, state_of_number}
-use Rattle.record.proofs.Powers.{pow_pos, pow_le}
 
 pub object_at : (ks : List ℕ) (n i m : ℕ) → i < n → get_or (state_from ks n m) i absent ≡ object_from ks (m / size_states ks ^ i % size_states ks)
 object_at ks zero i m h = absurd (omega arith)

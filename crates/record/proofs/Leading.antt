@@ -1,5 +1,5 @@
 -- The steps that are computed are those of the relation.
-use Rattle.std.proofs.Common.{◌≡◌, ℕ, ◌*◌, ◌/◌, ◌%◌, ◌^◌, ◌<◌, Bool, true, false, cond, ◌&&◌, ltb, ◌↔◌, length, Some, None, Option, sym, refl, ap, ◌∙◌}
+use Rattle.std.proofs.Common.{◌≡◌, ℕ, ◌*◌, ◌/◌, ◌%◌, ◌<◌, Bool, true, false, cond, ◌&&◌, ltb, length, Some, None, Option, sym, refl, ap, ◌∙◌}
 use Rattle.std.proofs.lemmas.Nat.{mod_below}
 use Rattle.std.proofs.lemmas.Bool.{ltb-true, lt-ltb, and_from}
 use Rattle.std.specs.Option.{option_map}
@@ -11,7 +11,7 @@ use Rattle.enforcement.proofs.Agreement.{enforcement_agrees}
 use Rattle.enforcement.proofs.Fitting.{none_some}
 use Rattle.record.specs.declared.moves.Move.{Move}
 use Rattle.record.specs.States.{number, state_from}
-use Rattle.record.specs.Moves.{move_at, IsMove, InScheme}
+use Rattle.record.specs.Moves.{move_at, InScheme}
 use Rattle.record.specs.Systems.{object_count, policy_at, state_after, step_of}
 use Rattle.record.specs.Relation.{Leads, Steps}
 use Rattle.record.proofs.Digits.{number_below, state_of_number, is_state, number_of_state, below_power, below_count}

@@ -1,18 +1,18 @@
 -- Enforcement on the codes of two objects of a state is enforcement on the state.
-use Rattle.std.proofs.Common.{◌≡◌, ℕ, ◌/◌, ◌%◌, ◌^◌, ◌<◌, true, cond, ◌&&◌, eqb, ltb, ◌≢◌, List, get_or, set, Some, None, Option, sym, refl, ap, ◌∙◌, subst, arith}
+use Rattle.std.proofs.Common.{◌≡◌, ℕ, ◌/◌, ◌%◌, ◌^◌, ◌<◌, cond, ◌≢◌, List, get_or, set, Some, None, Option, sym, refl, ap, ◌∙◌, subst, arith}
 use Rattle.std.proofs.lemmas.Nat.{mod_below}
 use Rattle.std.proofs.lemmas.Bool.{cond-true, and_from, lt-ltb, ne_eqb}
 use Rattle.std.specs.Option.{option_map}
 use Rattle.scheme.specs.Sizes.{size_states}
 use Rattle.scheme.specs.declared.terms.Predicate.{Predicate}
 use Rattle.scheme.specs.declared.terms.Action.{Action}
-use Rattle.codes.specs.Objects.{ObjectState, absent}
-use Rattle.codes.specs.Codes.{code, object_from}
+use Rattle.codes.specs.Objects.{absent}
+use Rattle.codes.specs.Codes.{object_from}
 use Rattle.codes.proofs.Digits.{code_below, object_code, fits_object}
 use Rattle.enforcement.specs.declared.pair.Pair.{Pair}
 use Rattle.enforcement.specs.Parties.{Parties}
 use Rattle.enforcement.specs.Coded.{pair_of, enforced_pair}
-use Rattle.enforcement.specs.Enforcement.{State, enforced_on, placed, enforced}
+use Rattle.enforcement.specs.Enforcement.{enforced_on, placed, enforced}
 use Rattle.enforcement.proofs.Fitting.{none_some, fits_enforced}
 use Rattle.record.specs.States.{number, state_from}
 use Rattle.record.specs.Numberings.{pair_at}

@@ -1,11 +1,10 @@
 -- One turn of the loops over the objects of a state.
-use Rattle.std.proofs.Common.{◌≡◌, ℕ, zero, suc, ◌+◌, ◌-◌, ◌*◌, ◌/◌, ◌%◌, ◌^◌, ◌<◌, ◌≤◌, Bool, true, false, cond, ◌&&◌, ltb, List, [], ◌∷◌, ◌++◌, map, length, get_or, drop, Some, None, Option, sym, refl, ap, ◌∙◌, add_assoc, mul_comm, pow-suc, add-one, arith}
+use Rattle.std.proofs.Common.{◌≡◌, ℕ, suc, ◌+◌, ◌-◌, ◌*◌, ◌/◌, ◌%◌, ◌^◌, ◌<◌, ◌≤◌, Bool, true, false, cond, ◌&&◌, ltb, List, [], ◌∷◌, ◌++◌, map, length, get_or, drop, Some, None, sym, refl, ap, ◌∙◌, add_assoc, mul_comm, arith}
 use lib.Arith.{digits_lt}
 use Rattle.std.proofs.lemmas.List.{drop_more, drop_all, append_assoc, append-nil}
 use Rattle.std.proofs.lemmas.Bool.{lt-ltb, cond-true}
-use Rattle.std.specs.Option.{option_map}
 use Rattle.scheme.specs.Sizes.{size_states}
-use Rattle.codes.specs.Objects.{ObjectState, absent, object_fits}
+use Rattle.codes.specs.Objects.{ObjectState, object_fits}
 use Rattle.codes.specs.Codes.{code, object_from}
 use Rattle.codes.proofs.Digits.{code_below}
 use Rattle.enforcement.specs.Enforcement.{State}

@@ -1,6 +1,6 @@
 -- A scheme record is within the bounds of walks and the counts of protection systems. Here and not in proofs/, since
 -- the implementation of the interface cites it.
-use Rattle.std.specs.Prelude.{◌≡◌, ℕ, zero, suc, ◌*◌, ◌/◌, ◌%◌, ◌^◌, ◌<◌, ◌≤◌, Bool, true, false, cond, ◌&&◌, List, [], ◌∷◌, length, Some, None, Option, nat_lt, slice_index_or, refl}
+use Rattle.std.specs.Prelude.{◌≡◌, ℕ, zero, suc, ◌*◌, ◌/◌, ◌%◌, ◌^◌, ◌<◌, ◌≤◌, Bool, true, false, cond, List, [], ◌∷◌, length, Some, None, Option, nat_lt, slice_index_or, refl}
 use Rattle.std.proofs.Common.{sym, ap, subst, ◌∙◌, mul_comm, mul-le-mul, zero-mul, arith}
 use Rattle.std.proofs.Math.Nat.{pow-zero, pow-le-pow_right}
 use Rattle.std.proofs.lemmas.Nat.{div_below, mod_below}
@@ -14,14 +14,14 @@ use Rattle.protection.specs.Permissions.{within}
 use Rattle.protection.specs.Systems.{Counts}
 use Rattle.bounded.specs.Items.{items}
 use Rattle.bounded.proofs.Lengths.{length_items}
-use Rattle.scheme.specs.Models.{PolicyModel, SchemeModel, object_of}
+use Rattle.scheme.specs.Models.{PolicyModel, SchemeModel}
 use Rattle.scheme.specs.Sizes.{sizes_of, size_states}
 use Rattle.scheme.specs.Counts.{state_count, move_count}
-use Rattle.scheme.specs.WellFormed.{rights_fit, well_formed}
+use Rattle.scheme.specs.WellFormed.{rights_fit}
 use Rattle.scheme.proofs.Sizes.{state_count_sizes}
 use Rattle.record.specs.declared.record.Scheme.{Scheme}
-use Rattle.record.specs.Moves.{move_at, move_of}
-use Rattle.record.specs.Systems.{object_count, no_policy, policy_at, step_of, permission_of, label_of, walk_of, labels_of}
+use Rattle.record.specs.Moves.{move_at}
+use Rattle.record.specs.Systems.{object_count, no_policy, step_of, permission_of, label_of, walk_of, labels_of}
 use Rattle.record.specs.Schemes.{scheme_of}
 
 -- an answer that is there under a condition

@@ -1,5 +1,5 @@
 -- The protection system that a scheme means.
-use Rattle.std.specs.Prelude.{◌≡◌, ℕ, cond, ◌&&◌, List, [], map, length, Some, None, Option, nat_lt, slice_index_or}
+use Rattle.std.specs.Prelude.{◌≡◌, ℕ, cond, ◌&&◌, [], map, length, Some, None, Option, nat_lt, slice_index_or}
 use Rattle.std.specs.Option.{option_map}
 use Rattle.walk.specs.Walks.{Walk}
 use Rattle.protection.specs.declared.permission.Permission.{Permission}

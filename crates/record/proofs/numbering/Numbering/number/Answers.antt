@@ -1,4 +1,4 @@
-use Rattle.std.proofs.Common.{◌≡◌, cond, ◌&&◌, eqb, map, length, Some, None, sym, ap, ◌∙◌, zero-add}
+use Rattle.std.proofs.Common.{◌≡◌, cond, ◌&&◌, map, length, Some, None, sym, ap, ◌∙◌, zero-add}
 use Rattle.std.proofs.lemmas.List.{length-map}
 use Rattle.std.proofs.lemmas.Bool.{cond-false, and_left, ne_eqb, eq-eqb}
 use Rattle.bounded.specs.Items.{items}

@@ -1,4 +1,4 @@
-use Rattle.std.proofs.Common.{◌+◌, ◌*◌, ◌^◌, ◌<◌, ◌≤◌, get_or, refl, ◌∙◌, arith}
+use Rattle.std.proofs.Common.{◌+◌, ◌*◌, ◌<◌, get_or, refl, ◌∙◌, arith}
 use native.Mathlib.Nat.{pow-zero}
 use Rattle.scheme.specs.Sizes.{size_states}
 use Rattle.codes.specs.Meanings.{object_of}

@@ -1,4 +1,4 @@
-use Rattle.std.proofs.Common.{◌≡◌, ◌+◌, ◌^◌, sym, arith}
+use Rattle.std.proofs.Common.{◌+◌, ◌^◌, sym, arith}
 use Rattle.std.proofs.lemmas.Bool.{cond-false, lt-leb}
 use Rattle.record.proofs.Powers.{pow_more, pow_none, pow_le}
 use Rattle.record.proofs.numbering.makes.count_states.Goals as goal

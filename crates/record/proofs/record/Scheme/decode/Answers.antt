@@ -1,4 +1,4 @@
-use Rattle.std.proofs.Common.{◌≡◌, ◌^◌, cond, ltb, Some, None, sym, ap, ◌∙◌}
+use Rattle.std.proofs.Common.{◌^◌, cond, ltb, Some, None, sym, ap, ◌∙◌}
 use Rattle.scheme.specs.Sizes.{sizes_of, size_states}
 use Rattle.scheme.proofs.Sizes.{state_count_sizes}
 use Rattle.record.specs.States.{state_from}

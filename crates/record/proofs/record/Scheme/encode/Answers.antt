@@ -1,4 +1,4 @@
-use Rattle.std.proofs.Common.{◌≡◌, cond, Some, None, ap, ◌∙◌}
+use Rattle.std.proofs.Common.{cond, Some, None, ap, ◌∙◌}
 use Rattle.scheme.specs.Sizes.{sizes_of}
 use Rattle.record.specs.States.{state_fits, number}
 use Rattle.record.specs.Numberings.{Dimensions, state_of}

@@ -1,12 +1,11 @@
-use Rattle.std.proofs.Common.{◌≡◌, ℕ, ◌*◌, ◌<◌, true, cond, map, length, Some, None, sym, refl, ap, ◌∙◌, subst}
+use Rattle.std.proofs.Common.{◌≡◌, ◌*◌, ◌<◌, map, length, sym, ap, ◌∙◌, subst}
 use Rattle.std.proofs.lemmas.Bool.{cond-true, cond-false, and_right, and_from}
 use Rattle.std.specs.List.{range_with_len}
 use Rattle.std.specs.Option.{option_map}
-use Rattle.bounded.specs.Items.{items}
 use Rattle.scheme.specs.Sizes.{sizes_of}
-use Rattle.scheme.specs.Counts.{state_count, move_count}
+use Rattle.scheme.specs.Counts.{state_count}
 use Rattle.scheme.specs.Drafts.{draft_of}
-use Rattle.scheme.specs.Models.{SchemeModel, object_of, policy_of}
+use Rattle.scheme.specs.Models.{object_of, policy_of}
 use Rattle.scheme.proofs.Lists.{count_of}
 use Rattle.enforcement.proofs.Fitting.{none_some}
 use Rattle.record.specs.States.{number}

@@ -1,9 +1,8 @@
-use Rattle.std.proofs.Common.{◌≡◌, ◌<◌, length, get_or, sym, ap, ◌∙◌, arith}
+use Rattle.std.proofs.Common.{◌<◌, length, get_or, sym, ap, ◌∙◌, arith}
 use Rattle.std.proofs.lemmas.List.{get_or-map}
-use Rattle.scheme.specs.Models.{PolicyModel, policy_of}
+use Rattle.scheme.specs.Models.{policy_of}
 use Rattle.scheme.proofs.Lists.{count_of}
 use Rattle.record.specs.Systems.{no_policy}
-use Rattle.record.specs.Schemes.{scheme_of}
 use Rattle.record.proofs.record.Scheme.policy_of.Goals as goal
 
 pub bounds-policies-mv : goal.bounds-policies-mv
