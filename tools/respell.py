@@ -4,7 +4,8 @@ fields and variables, upper camel case for types.
 
     tools/respell.py [--list]
 
-It runs at the top of the repository, once, after the toolchain's port.py; --list prints old and new names and writes nothing.
+It runs at the top of the repository, once, after the toolchain's port.py, and not on a tree that it has turned (it would break `first_kind`
+of crates/text); --list prints old and new names and writes nothing.
 A name is turned if a file of specs/ or proofs/ declares it. Names that Rattle makes (declared at a type `goal.x` or `given.x`) and names
 imported from a library keep their spelling. Behind a dot only fields turn. In .rt files the names turn in clauses and ghost items, which
 alone can hold them; in documents only between backquotes. Strings stay.

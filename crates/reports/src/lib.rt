@@ -1,4 +1,4 @@
-// The report of a scheme text, as bytes: what the program `annex` prints.
+// The whole report of a scheme text, as bytes: what `annex_cases` prints, and `annex` is to print.
 //
 // names    names by their numbers
 // moves    the lines that tell the moves of a witness

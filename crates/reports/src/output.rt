@@ -1,6 +1,8 @@
 // All that is printed of a text.
 ghost use Rattle.std.specs.Prelude.{◌≡◌, true, Ok};
+ghost use Rattle.scheme.specs.Models.{SchemeModel};
 ghost use Rattle.scheme.specs.Drafts.{draft_of};
+ghost use Rattle.text.specs.Reading.{reading};
 ghost use Rattle.record.specs.Accepted.{accepted};
 ghost use Rattle.render.specs.Appended.{Appended};
 ghost use Rattle.reports.specs.Reports.{output_of, annex_output};
@@ -25,9 +27,11 @@ fn put_declared(out: &mut Vec<u8>, draft: Draft) -> Result<(), AllocError>
 }
 
 // Appends the report of a text, or its refusal. Want of memory is the only other answer, and it can
-// come only where the bytes had no room.
+// come only where the bytes had no room. `accepted`: what a text declares that is read is always
+// accepted as a scheme record, so no text is refused but by the reader.
 pub fn annex(out: &mut Vec<u8>, text: &[u8]) -> Result<(), AllocError>
-    ensures { Appended result out.old out.new (annex_output text.now) }
+    ensures report { Appended result out.old out.new (annex_output text.now) }
+    ensures accepted { (m : SchemeModel) → reading text.now ≡ Ok m → accepted m ≡ true }
 {
     let mut declared = Declared::bare();
     match read(&mut declared, text) {

@@ -48,6 +48,6 @@ returns c =
     record {
       report =
           subst (λ (bytes : List ℕ). Appended c.annex.result c.args.out.now c.annex.new.out bytes)
-          worked_examples.meter_prints c.annex.ensures;
+          worked_examples.meter_prints c.annex.ensures.report;
       examples = worked_examples;
     }
