@@ -1,29 +1,12 @@
--- A short table is refused; else the parts lent to `run` come back in the whole tables.
-use Rattle.std.proofs.Common.{◌≡◌, ℕ, ◌≤◌, Bool, true, false, length, Some, None, sym, refl, ap, ◌∙◌, arith}
-use Rattle.std.proofs.lemmas.Bool.{cond-true, cond-false, and_from, le-leb}
-use Rattle.std.proofs.lemmas.Bool.Decides.{nat_tests}
+-- The parts lent to `run` come back in the whole tables.
+use Rattle.std.proofs.Common.{◌≡◌, ℕ, ◌≤◌, Bool, true, length, Some, None, sym, ap, ◌∙◌, arith}
+use Rattle.std.proofs.lemmas.Bool.{cond-true, and_from, le-leb}
 use Rattle.walk.specs.Walks.{Walk}
 use Rattle.walk.specs.Search.{search_from}
 use Rattle.walk.specs.Results.{found_of, large_enough}
 use Rattle.walk.proofs.Whole.{marks_whole, found_whole}
 use Rattle.walk.proofs.Law.{found_fits, means_of}
 use Rattle.walk.proofs.search.Goals as goal
-
-pub returns-then-marks-states : goal.returns-then-marks-states
-returns-then-marks-states g c =
-    let walk : Walk = g.W.Walk.model c.args.walk.now in
-    let n : ℕ = walk.states in
-    let same : c.states-states.result ≡ n = c.states-states.ensures in
-    let ways = c.then-marks-states.either in
-    let short : large_enough n (length c.args.marks.now) (length c.args.found.now) (length c.args.witness.now) ≡ false
-    = grind (arith, nat_tests) in
-    record {
-      answer = sym (cond-false _ _ None short);
-      marks = refl;
-      found = refl;
-      witness = refl;
-      means = tt;
-    }
 
 pub returns : goal.returns
 returns g c =
