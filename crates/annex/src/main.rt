@@ -10,8 +10,8 @@ const ENOUGH: usize = 65_536;
 
 fn run(rt: &HostRuntime) -> io::Result<()> {
     let mut buffer = [0u8; ENOUGH];
-    let len = read_up_to(&mut rt.stdin(), &mut buffer)?;
-    let headline = headline_of(&buffer[0..len]);
+    let text = read_up_to(&mut rt.stdin(), &mut buffer)?;
+    let headline = headline_of(text);
     println!(rt; "{headline}")
 }
 

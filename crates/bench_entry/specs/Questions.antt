@@ -1,5 +1,5 @@
 -- What a query of a text asks, what C is told of its analysis, and what is left of the tables.
-use Rattle.std.specs.Prelude.{ℕ, zero, suc, cond, List, Some, None, Ok, Err, Option, Result}
+use Rattle.std.specs.Prelude.{ℕ, zero, suc, List, Some, None, Ok, Err, Option, Result}
 use Rattle.std.specs.List.{slice_get}
 use Rattle.std.specs.Option.{option_map}
 use Rattle.walk.specs.declared.records.Found.{Found}
@@ -16,6 +16,7 @@ use Rattle.text.specs.declared.fault.SchemeFault.{SchemeFault}
 use Rattle.text.specs.Faults.{scheme_report}
 use Rattle.text.specs.Reading.{reading}
 use Rattle.bench_entry.specs.declared.answer.Answer.{Answer}
+use Rattle.bench_entry.specs.Answers.{answer_of}
 
 -- whether a permission can ever be granted in a system
 pub record Question : Type 0 where
@@ -49,7 +50,7 @@ number_of (Ok said) = 0
 number_of (Err e) = e.number
 
 abbrev pub answer_left : Result Said Refused → Answer → Answer
-answer_left (Ok said) answer = record { leak = cond said.leaks 1 0; found = said.found; tried = said.tried; length = said.length }
+answer_left (Ok said) answer = answer_of said
 answer_left (Err e) answer = answer
 
 -- the tables after the number r: a refusal leaves them as they were

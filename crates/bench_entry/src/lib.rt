@@ -1,23 +1,20 @@
 // The analysis of a text's query, for C to call: bench/ measures it.
 #![tactic(auto)]
 
-ghost use Rattle.std.specs.Prelude.{◌≡◌, true, length};
+ghost use Rattle.std.specs.Prelude.{◌≡◌, length};
 ghost use Rattle.std.specs.List.{slice_get};
 ghost use Rattle.std.specs.Option.{option_map};
 ghost use Rattle.protection.specs.Answers.{told};
 ghost use Rattle.protection.specs.Meaning.{meaning};
 ghost use Rattle.record.specs.Systems.{permission_asked};
-ghost use Rattle.scheme.specs.Drafts.{draft_of};
-ghost use Rattle.record.specs.Accepted.{accepted};
 ghost use Rattle.record.specs.Schemes.{scheme_of};
 ghost use Rattle.bench_entry.specs.Questions.{asked_by, asks, reply, number_of, answer_left, marks_left, found_left, witness_left};
 
 pub mod answer;
 
 use answer::Answer;
-use protection::{Permission, Refusal, System, Verdict, analyse};
+use protection::{Numbered, Permission, Refusal, System, Verdict, analyse};
 use record::{Scheme, permission_asked};
-use scheme::draft::Draft;
 use scheme::record::Scheme as Declared;
 use text::read::read;
 use walk::Found;
@@ -43,34 +40,19 @@ pub extern "C" fn bench_analyse(
     if let Err(fault) = read(&mut declared, text) {
         return fault.report().number;
     }
-    let scheme = record_of(*declared.draft());
+    let scheme = Scheme::of(*declared.draft()).unwrap();
     let Some(q) = asked(&scheme, query) else {
         return Refusal::OutOfCounts.number();
     };
     ask(&scheme, q, marks, found, witness, answer)
 }
 
-// The scheme record of what a text declares, which is always accepted.
-fn record_of(draft: Draft) -> Scheme
-    requires { accepted (draft_of draft) ≡ true }
-    ensures { scheme_of result ≡ draft_of draft }
-{
-    match Scheme::of(draft) {
-        Some(scheme) => scheme,
-        None => unreachable(),
-    }
-}
-
 // The permission that a query asks about.
 fn asked(scheme: &Scheme, query: u32) -> Option<Permission>
     ensures { result ≡ option_map permission_asked (slice_get (scheme_of scheme.now).queries query) }
 {
-    let queries = scheme.draft().queries();
-    let at = query as usize;
-    if at >= queries.len() {
-        return None;
-    }
-    Some(permission_asked(queries[at]))
+    let query = scheme.draft().queries().get(query as usize)?;
+    Some(permission_asked(*query))
 }
 
 // Analyses a permission of any system.
@@ -96,26 +78,11 @@ fn tell(outcome: Result<Verdict, Refusal>, answer: &mut Answer) -> u32
     ensures number { result ≡ number_of (told outcome) }
     ensures answer { answer.new ≡ answer_left (told outcome) answer.old }
 {
-    *answer = match outcome {
-        Ok(
-            Verdict::Leak {
-                found,
-                tried,
-                length,
-            },
-        ) => Answer {
-            leak: 1,
-            found,
-            tried,
-            length,
-        },
-        Ok(Verdict::Never { found, tried }) => Answer {
-            leak: 0,
-            found,
-            tried,
-            length: 0,
-        },
-        Err(refusal) => return refusal.number(),
-    };
-    0
+    match outcome {
+        Ok(verdict) => {
+            *answer = verdict.into();
+            0
+        }
+        Err(refusal) => refusal.number(),
+    }
 }

@@ -1,3 +1,3 @@
-mod Copies
 pub mod Pushes
 pub mod Lengths
+pub mod Collects

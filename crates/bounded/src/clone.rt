@@ -1,4 +1,5 @@
-// A bounded list of plain items is itself plain: its clone is the same list, and never fails.
+// A bounded list of plain items is itself plain: its clone is the same list, and never fails. It is
+// written by hand, since `Clone` cannot be derived over ghost fields behind a type parameter.
 ghost use Rattle.std.specs.Prelude.{◌≡◌, ⊤};
 
 use super::Bounded;

@@ -4,7 +4,8 @@
 
 ghost use Rattle.std.specs.Prelude.{◌≡◌, ◌≤◌, length};
 
-// At most N items, in order: the first `len` of the array.
+// At most N items, in order: the first `len` of the array. It stands where a `Vec` would: a list
+// that allocates could be refused for want of memory, and nothing in the libraries may be.
 #[derive(Copy)]
 pub struct Bounded<T, const N: usize> {
     array: [T; N],
@@ -14,4 +15,7 @@ pub struct Bounded<T, const N: usize> {
 }
 
 mod clone;
+pub mod full;
 pub mod methods;
+
+pub use full::Full;

@@ -1,9 +1,13 @@
 // What a bounded list does, said of the list of its items.
-ghost use Rattle.std.specs.Prelude.{◌≡◌, [], ◌∷◌, ◌++◌, length, if◌then◌else◌, Some, None, nat_le, nat_lt};
+ghost use Rattle.std.specs.Prelude.{◌≡◌, ◌<◌, ◌≤◌, [], ◌∷◌, ◌++◌, length, if◌then◌else◌, is_ok, Some, None, MatchOption, MatchResult, nat_le, nat_lt, slice_get, slice_set};
 ghost use Rattle.std.specs.Option.{option_map};
+ghost use Rattle.std.specs.Fn.{FnOnceReturnsAtMut};
+ghost use Rattle.std.specs.Iterator.{IsFinite};
+ghost use Rattle.std.specs.Iterator.Runs.{SomeRun, WholeRun};
 ghost use Rattle.bounded.specs.Items.{items};
 
 use super::Bounded;
+use crate::full::Full;
 
 impl<T: Copy, const N: usize> Bounded<T, N> {
     // An empty list; `filler` stands in the array where no item is yet.
@@ -16,11 +20,38 @@ impl<T: Copy, const N: usize> Bounded<T, N> {
         }
     }
 
+    // A copy of the items of a slice, or none where they are more than N.
+    pub fn from_slice(slice: &[T], filler: T) -> Option<Self>
+        ensures { option_map items result ≡ (if nat_le (length slice.now) N then Some slice.now else None) }
+    {
+        if slice.len() > N {
+            return None;
+        }
+        let mut array = [filler; N];
+        array[..slice.len()].copy_from_slice(slice);
+        Some(Bounded {
+            array,
+            len: slice.len(),
+        })
+    }
+
+    // The items that an iterator gives; refused where they are more than N.
+    pub fn collect<I: Iterator<Item = T>>(filler: T, from: I) -> Result<Self, Full>
+        requires can { I.can_next from }
+        requires finite { IsFinite (I.remaining from) }
+        ensures { MatchResult result (λ list. WholeRun I.next_gives from (λ p. items list ≡ p.items)) (λ _. SomeRun I.next_gives from (λ p. N < p.len)) }
+    {
+        let mut list = Bounded::new(filler);
+        for item in from {
+            list.push(item)?;
+        }
+        Ok(list)
+    }
+
     pub fn as_slice(&self) -> &[T]
         ensures { result.now ≡ items self.now }
     {
-        let all = &self.array[..];
-        &all[0..self.len]
+        &self.array[..self.len]
     }
 
     pub fn has_room(&self) -> bool
@@ -29,30 +60,28 @@ impl<T: Copy, const N: usize> Bounded<T, N> {
         self.len < N
     }
 
-    // One item more at the end, or false where the list is full.
-    pub fn push(&mut self, item: T) -> bool
-        ensures room { result ≡ nat_lt (length (items self.old)) N }
-        ensures after { items self.new ≡ (if result then items self.old ++ item ∷ [] else items self.old) }
+    // One item more at the end; refused where the list is full.
+    pub fn push(&mut self, item: T) -> Result<(), Full>
+        ensures room { is_ok result ≡ nat_lt (length (items self.old)) N }
+        ensures after { items self.new ≡ (if is_ok result then items self.old ++ item ∷ [] else items self.old) }
     {
         if !self.has_room() {
-            return false;
+            return Err(Full);
         }
         self.array[self.len] = item;
         self.len += 1;
-        true
+        Ok(())
     }
 
-    // A copy of the items of a slice, or none where they are more than N.
-    pub fn from_slice(slice: &[T], filler: T) -> Option<Self>
-        ensures { option_map items result ≡ (if nat_le (length slice.now) N then Some slice.now else None) }
+    // Lends the item at a place to a function that may change it, and answers what that answers;
+    // none where there is no such item.
+    pub fn lend<R, F: FnOnce(&mut T) -> R>(&mut self, at: usize, edit: F) -> Option<R>
+        requires { F.IsAlwaysCallable edit }
+        ensures { MatchOption result ((length (items self.old) ≤ at) × (items self.new ≡ items self.old)) (λ r. (x : T) × (y : T) × (slice_get (items self.old) at ≡ Some x) × FnOnceReturnsAtMut F.FnOnce edit x r y × (items self.new ≡ slice_set (items self.old) at y)) }
     {
-        if slice.len() > N {
+        if at >= self.len {
             return None;
         }
-        let mut list = Bounded::new(filler);
-        for item in slice {
-            list.push(*item);
-        }
-        Some(list)
+        Some(edit(&mut self.array[at]))
     }
 }

@@ -1,3 +1,4 @@
 pub mod Digits
 pub mod Weighing
+mod Making
 mod Summing

@@ -1,13 +1,15 @@
 -- The weighed sum of the values of an object, one attribute after another.
-use Rattle.std.proofs.Common.{◌≡◌, ℕ, suc, ◌+◌, ◌*◌, ◌<◌, ◌≤◌, Bool, true, false, cond, ◌&&◌, List, [], ◌∷◌, length, get_or, drop, Some, None, Option, sym, refl, ap, ◌∙◌, add_assoc, mul_comm, arith}
+use Rattle.std.proofs.Common.{◌≡◌, ℕ, suc, ◌+◌, ◌*◌, ◌<◌, Bool, true, false, cond, ◌&&◌, List, [], ◌∷◌, length, get_or, drop, slice_get, Some, None, Option, sym, refl, ap, ◌∙◌, add_assoc, mul_comm, arith}
 use lib.Arith.{digits_lt}
-use Rattle.std.proofs.lemmas.List.{drop_more, drop_all}
+use Rattle.std.proofs.lemmas.List.{drop_more, length-map}
+use Rattle.std.proofs.lemmas.Option.{slice_get-get_or}
 use Rattle.std.proofs.lemmas.Bool.{false≢true, and_parts}
 use Rattle.scheme.specs.WellFormed.{value_fits, values_fit}
 use Rattle.codes.specs.Codes.{part, weighed}
-use Rattle.codes.specs.Weights.{weight, summed}
+use Rattle.codes.specs.declared.digit.Digit.{Digit}
+use Rattle.codes.specs.Weights.{weight, digit_sizes, Weighed, summed}
 use Rattle.codes.proofs.Digits.{part_lt}
-use Rattle.codes.proofs.Weighing.{weight_more}
+use Rattle.codes.proofs.Weighing.{weight_more, size_at}
 
 fit_length : (ks : List ℕ) (vs : List (Option ℕ)) → values_fit ks vs ≡ true → length vs ≡ length ks
 fit_length [] [] h = refl
@@ -50,8 +52,29 @@ module _ (ks : List ℕ) (vs : List (Option ℕ)) (i sum : ℕ) (even : length v
         omega (arith, weight_more ks i inside, mul_comm (get_or ks i 0 + 1) (weight ks i)),
       )
 
-pub summed_all : (ks : List ℕ) (vs : List (Option ℕ)) (i sum : ℕ) → length ks ≤ i → length vs ≤ i → Some sum ≡ summed sum (weight ks i) (drop i ks) (drop i vs)
-summed_all ks vs i sum hk hv =
-    let zero_more : sum ≡ sum + 0 = omega arith in
-    ap Some zero_more
-    ∙ sym (ap (λ l. summed sum (weight ks i) l (drop i vs)) (drop_all i ks hk) ∙ ap (λ l. summed sum (weight ks i) [] l) (drop_all i vs hv))
+-- the digits and the values, in step
+module _ (ds : List Digit) (vs : List (Option ℕ)) (weighed : Weighed ds) (even : length vs ≡ length ds) where
+  abbrev sum_left : ℕ → ℕ → Option ℕ
+  sum_left sum n = summed sum (weight (digit_sizes ds) n) (drop n (digit_sizes ds)) (drop n vs)
+
+  evenly : length vs ≡ length (digit_sizes ds)
+  evenly = even ∙ sym (length-map ds (λ (x : Digit). x.size))
+
+  module _ (n sum : ℕ) (d : Digit) (v : Option ℕ) (inside : n < length ds) (is_digit : d ≡ get_or ds n d) (is_value : v ≡ get_or vs n None) where
+    here : slice_get ds n ≡ Some d
+    here = slice_get-get_or ds n d inside ∙ ap Some (sym is_digit)
+
+    inside_sizes : n < length (digit_sizes ds)
+    inside_sizes = omega (arith, length-map ds (λ (x : Digit). x.size))
+
+    test : value_fits d.size v ≡ value_fits (get_or (digit_sizes ds) n 0) (get_or vs n None)
+    test = ap (λ k. value_fits k v) (sym (size_at ds n d here)) ∙ ap (value_fits (get_or (digit_sizes ds) n 0)) is_value
+
+    pub digit_unfit : false ≡ value_fits d.size v → None ≡ sum_left sum n
+    digit_unfit unfit = summed_unfit (digit_sizes ds) vs n sum evenly inside_sizes (sym (unfit ∙ test))
+
+    pub digit_summed : (p next : ℕ) → p ≡ part v → true ≡ value_fits d.size v → sum < weight (digit_sizes ds) n → next ≡ n + 1
+        → (sum_left (sum + p * d.weight) next ≡ sum_left sum n) × (sum + p * d.weight < weight (digit_sizes ds) next)
+    digit_summed p next is_part fits low is_next =
+        let more = summed_more (digit_sizes ds) vs n sum evenly inside_sizes p d.weight (is_part ∙ ap part is_value) (weighed n d here) (sym (fits ∙ test)) low in
+        rw is_next more

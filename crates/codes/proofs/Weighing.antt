@@ -1,14 +1,18 @@
 -- One part of a code: its weight, how it is read, and the code with another part in its place.
-use Rattle.std.proofs.Common.{◌≡◌, ℕ, zero, suc, ◌+◌, ◌-◌, ◌*◌, ◌/◌, ◌%◌, ◌^◌, ◌<◌, ◌≤◌, true, cond, List, [], ◌∷◌, ◌++◌, length, get_or, drop, set, Some, None, Option, sym, refl, ap, ◌∙◌, mul_assoc, mul_comm, add-mul, mul-le-mul, pow-suc, mul-one, div-one, arith}
+use Rattle.std.proofs.Common.{◌≡◌, ℕ, zero, suc, ◌+◌, ◌-◌, ◌*◌, ◌/◌, ◌%◌, ◌^◌, ◌<◌, ◌≤◌, true, cond, List, [], ◌∷◌, ◌++◌, length, get_or, set, map, slice_get, Some, None, Option, MatchOption, Bor, sym, refl, ap, ◌∙◌, ⊎_elim, mul_assoc, mul_comm, add-mul, mul-le-mul, pow-suc, mul-one, one-mul, div-one, arith}
 use native.Mathlib.Nat.{mod-one, div-div-eq-div-mul, pow-zero, pow-le-pow_right}
-use Rattle.std.proofs.lemmas.List.{take_all, get_or_past, append-nil, append_assoc, at_drop_more, at_drop_all}
-use Rattle.std.proofs.lemmas.Bool.{false≢true, and_parts, and_from, lt-ltb, ltb-true, cond-true}
-use Rattle.std.specs.Option.{option_map}
+use Rattle.std.proofs.lemmas.List.{take_all, get_or_past, map_push, length-map, length_push, take-append-le}
+use Rattle.std.proofs.Math.ListN.{get_or-append}
+use Rattle.std.proofs.Math.Seq.{get_or-append_seam}
+use Rattle.std.proofs.lemmas.Option.{get_or_from_slice_get, slice_get-map, slice_get-get_or, slice_get_within}
+use Rattle.std.proofs.lemmas.Bool.{cases_lt, false≢true, and_parts, and_from, lt-ltb, ltb-true, cond-true}
+use Rattle.std.specs.Option.{option_map, option_copied}
 use Rattle.scheme.specs.Sizes.{size_combinations, size_states}
 use Rattle.scheme.specs.WellFormed.{value_fits, values_fit}
 use Rattle.codes.specs.Objects.{ObjectState, there, updated}
 use Rattle.codes.specs.Codes.{part, code, from_part, values_from, value_in, object_from, updated_code}
-use Rattle.codes.specs.Weights.{weight}
+use Rattle.codes.specs.declared.digit.Digit.{Digit}
+use Rattle.codes.specs.Weights.{weight, digit_sizes, Weighed}
 use Rattle.codes.proofs.Digits.{horner, horner_values, code_horner, part_from_part, fit_values, length_values, code_below}
 
 -- Weights.
@@ -40,18 +44,26 @@ weight_le (k ∷ ks) zero =
     omega (arith, weight_pos (k ∷ ks) (suc (length ks)), weight_all (k ∷ ks) (suc (length ks)) (omega arith))
 weight_le (k ∷ ks) (suc a) = let z : k + 1 ≤ k + 1 = omega arith in mul-le-mul (weight_le ks a) z
 
--- four sizes of a byte each
-combinations_le : (ks : List ℕ) → ((i : ℕ) → get_or ks i 0 < 256) → size_combinations ks ≤ 256 ^ length ks
-combinations_le [] f = rw pow-zero (omega arith)
-combinations_le (k ∷ ks) f =
+-- sizes of a byte each, and four of them
+weight_le_pow : (ks : List ℕ) (a : ℕ) → ((i : ℕ) → get_or ks i 0 < 256) → weight ks a ≤ 256 ^ a
+weight_le_pow ks zero f = rw pow-zero (omega arith)
+weight_le_pow [] (suc a) f =
+    let z : 0 < 256 = omega arith in
+    let y : 0 ≤ suc a = omega arith in
+    omega (arith, pow-le-pow_right z y, pow-zero 256)
+weight_le_pow (k ∷ ks) (suc a) f =
     let z : k < 256 = f 0 in
     let y : k + 1 ≤ 256 = omega arith in
-    rw pow-suc (mul-le-mul (combinations_le ks (λ i. f (suc i))) y)
+    rw pow-suc (mul-le-mul (weight_le_pow ks a (λ i. f (suc i))) y)
 
-pub combinations_fit : (ks : List ℕ) → length ks ≤ 4 → ((i : ℕ) → get_or ks i 0 < 256) → size_combinations ks ≤ 2 ^ 32
-combinations_fit ks h f =
+pub weight_fits : (ks : List ℕ) (a : ℕ) → a ≤ 4 → ((i : ℕ) → get_or ks i 0 < 256) → weight ks a ≤ 2 ^ 32
+weight_fits ks a h f = let z : 0 < 256 = omega arith in omega (arith, weight_le_pow ks a f, pow-le-pow_right z h)
+
+pub weight_before_last_fits : (ks : List ℕ) (a : ℕ) → a < 4 → ((i : ℕ) → get_or ks i 0 < 256) → weight ks a < 2 ^ 32
+weight_before_last_fits ks a h f =
     let z : 0 < 256 = omega arith in
-    omega (arith, combinations_le ks f, pow-le-pow_right z h)
+    let y : a ≤ 3 = omega arith in
+    omega (arith, weight_le_pow ks a f, pow-le-pow_right z y)
 
 -- Reading a part.
 
@@ -61,6 +73,55 @@ part_is (k ∷ ks) c zero = ap (λ n. n % (k + 1)) (div-one c) ∙ sym (part_fro
 part_is (k ∷ ks) c (suc a) =
     ap (λ n. n % (get_or ks a 0 + 1)) (ap (λ n. c / n) (mul_comm (weight ks a) (k + 1)) ∙ sym (div-div-eq-div-mul c (k + 1) (weight ks a)))
     ∙ part_is ks (c / (k + 1)) a
+
+pub past_values : (ks : List ℕ) (c a : ℕ) → length ks ≤ a → get_or (values_from ks c) a None ≡ None
+past_values ks c a h = get_or_past (values_from ks c) a None (omega (arith, length_values ks c))
+
+-- Digits.
+
+pub size_at : (ds : List Digit) (a : ℕ) (d : Digit) → slice_get ds a ≡ Some d → get_or (digit_sizes ds) a 0 ≡ d.size
+size_at ds a d is = get_or_from_slice_get (digit_sizes ds) a d.size 0 (slice_get-map (λ (e : Digit). e.size) ds a ∙ ap (option_map (λ (e : Digit). e.size)) is)
+
+pub none_past : (ds : List Digit) (a : ℕ) → slice_get ds a ≡ None → length (digit_sizes ds) ≤ a
+none_past [] a is = omega arith
+none_past (d ∷ ds) zero is = cc
+none_past (d ∷ ds) (suc a) is = omega (arith, none_past ds a is)
+
+-- what a digit reads is the part
+pub digit_reads : (ds : List Digit) (c a : ℕ) (d : Digit) → Weighed ds → slice_get ds a ≡ Some d → c / d.weight % (d.size + 1) ≡ part (get_or (values_from (digit_sizes ds) c) a None)
+digit_reads ds c a d weighed is =
+    ap (λ n. c / n % (d.size + 1)) (weighed a d is)
+    ∙ ap (λ n. c / weight (digit_sizes ds) a % (n + 1)) (sym (size_at ds a d is))
+    ∙ part_is (digit_sizes ds) c a
+
+-- what is read of a digit, or of none
+pub part_read : (ds : List Digit) (c a : ℕ) (o : Option (Bor Digit)) (r : ℕ) → Weighed ds → option_copied o ≡ slice_get ds a → MatchOption o (r ≡ 0) (λ d. r ≡ (c - 1) / d.now.weight % (d.now.size + 1)) → r ≡ part (value_in (digit_sizes ds) c a)
+part_read ds c a None r weighed is told = told ∙ sym (ap part (past_values (digit_sizes ds) (c - 1) a (none_past ds a (sym is))))
+part_read ds c a (Some d) r weighed is told = told ∙ digit_reads ds (c - 1) a d.now weighed (sym is)
+
+-- one digit more
+pub weighed_more : (ds : List Digit) (d : Digit) → Weighed ds → d.weight ≡ weight (digit_sizes ds) (length ds) → Weighed (ds ++ d ∷ [])
+weighed_more ds d weighed is_weight a e is = ⊎_elim inside last (cases_lt a (length ds))
+  where
+    sizes : digit_sizes (ds ++ d ∷ []) ≡ digit_sizes ds ++ d.size ∷ []
+    sizes = map_push (λ (x : Digit). x.size) ds d
+
+    -- the weights of those before it stay, and its own is the next
+    kept : a ≤ length ds → weight (digit_sizes (ds ++ d ∷ [])) a ≡ weight (digit_sizes ds) a
+    kept low = ap (λ l. weight l a) sizes ∙ ap size_combinations (take-append-le a (digit_sizes ds) (d.size ∷ []) (omega (arith, length-map ds (λ (x : Digit). x.size))))
+
+    read : get_or (ds ++ d ∷ []) a e ≡ e
+    read = get_or_from_slice_get (ds ++ d ∷ []) a e e is
+
+    inside : a < length ds → e.weight ≡ weight (digit_sizes (ds ++ d ∷ [])) a
+    inside low =
+        weighed a e (slice_get-get_or ds a e low ∙ ap Some (sym (get_or-append ds (d ∷ []) e a low) ∙ read)) ∙ sym (kept (omega arith))
+
+    last : length ds ≤ a → e.weight ≡ weight (digit_sizes (ds ++ d ∷ [])) a
+    last high =
+        let end : a ≡ length ds = omega (arith, slice_get_within (ds ++ d ∷ []) a e is, length_push ds d) in
+        let it : e ≡ d = sym read ∙ ap (λ n. get_or (ds ++ d ∷ []) n e) end ∙ get_or-append_seam ds d [] e in
+        ap (λ (x : Digit). x.weight) it ∙ is_weight ∙ ap (weight (digit_sizes ds)) (sym end) ∙ sym (kept (omega arith))
 
 -- Another part.
 
@@ -133,9 +194,6 @@ pub exchanged : (ks : List ℕ) (c a : ℕ) (v : Option ℕ) (p w new : ℕ) →
 exchanged ks c a v p w new pos h f is-part is-weight is_new =
     rw (is-part, is-weight, is_new) (exchange ks c a v pos h f)
 
-pub past_values : (ks : List ℕ) (c a : ℕ) → length ks ≤ a → get_or (values_from ks c) a None ≡ None
-past_values ks c a h = get_or_past (values_from ks c) a None (omega (arith, length_values ks c))
-
 -- an attribute that is not there can only be null, and stays so
 pub updated_past : (ks : List ℕ) (c a : ℕ) (v : Option ℕ) → 0 < c → c < size_states ks → length ks ≤ a → value_fits (get_or ks a 0) v ≡ true
     → Some c ≡ updated_code ks c a v
@@ -150,20 +208,29 @@ updated_past ks c a v pos h past f =
     only_null None f = refl
     only_null (Some x) f = absurd (omega (arith, ltb-true x 0 f))
 
+-- the exchange that a digit makes
+pub digit_exchanges : (ds : List Digit) (d : Digit) (c a : ℕ) (v : Option ℕ) (p new : ℕ) → Weighed ds → slice_get ds a ≡ Some d → 0 < c → c < size_states (digit_sizes ds) → value_fits (get_or (digit_sizes ds) a 0) v ≡ true
+    → p ≡ (c - 1) / d.weight % (d.size + 1) → new ≡ part v → Exchanged (digit_sizes ds) c a v p d.weight new
+digit_exchanges ds d c a v p new weighed is pos h f told is_new =
+    exchanged (digit_sizes ds) c a v p d.weight new pos h f (told ∙ digit_reads ds (c - 1) a d weighed is) (weighed a d is) is_new
+
 -- Whole objects.
 
--- the values so far, and those that are left
-pub values_more : (ks : List ℕ) (i rest : ℕ) (vs vs' whole : List (Option ℕ)) → i < length ks
-    → vs' ≡ vs ++ from_part (rest % (get_or ks i 0 + 1)) ∷ []
-    → vs ++ values_from (drop i ks) rest ≡ whole
-    → vs' ++ values_from (drop (i + 1) ks) (rest / (get_or ks i 0 + 1)) ≡ whole
-values_more ks i rest vs vs' whole h grown inv =
-    ap (λ l. l ++ values_from (drop (i + 1) ks) (rest / (get_or ks i 0 + 1))) grown
-    ∙ append_assoc vs (from_part (rest % (get_or ks i 0 + 1)) ∷ []) (values_from (drop (i + 1) ks) (rest / (get_or ks i 0 + 1)))
-    ∙ sym (ap (λ l. vs ++ l) (at_drop_more (λ l. values_from l rest) ks i 0 h))
-    ∙ inv
+-- the value of a digit in a sum
+abbrev pub value_read : ℕ → Digit → Option ℕ
+value_read c d = from_part (c / d.weight % (d.size + 1))
 
-pub values_all : (ks : List ℕ) (i rest : ℕ) (vs whole : List (Option ℕ)) → length ks ≤ i
-    → vs ++ values_from (drop i ks) rest ≡ whole → vs ≡ whole
-values_all ks i rest vs whole h inv =
-    sym (append-nil vs) ∙ sym (ap (λ l. vs ++ l) (at_drop_all (λ l. values_from l rest) ks i h)) ∙ inv
+-- the digits whose weights are w times theirs have the values of c / w
+values_over : (ds : List Digit) (w c : ℕ) → ((a : ℕ) (d : Digit) → slice_get ds a ≡ Some d → d.weight ≡ w * weight (digit_sizes ds) a) → map (value_read c) ds ≡ values_from (digit_sizes ds) (c / w)
+values_over [] w c weights = refl
+values_over (d ∷ ds) w c weights =
+    let k : ℕ = d.size + 1 in
+    let head : d.weight ≡ w = weights 0 d refl ∙ mul-one w in
+    let tail : map (value_read c) ds ≡ values_from (digit_sizes ds) (c / (w * k)) =
+    values_over ds (w * k) c (λ a e is. weights (suc a) e is ∙ ap (λ n. w * n) (mul_comm (weight (digit_sizes ds) a) k) ∙ sym (mul_assoc w k (weight (digit_sizes ds) a))) in
+    ap (λ n. from_part (c / n % k) ∷ map (value_read c) ds) head
+    ∙ ap (λ l. from_part (c / w % k) ∷ l) (tail ∙ ap (values_from (digit_sizes ds)) (sym (div-div-eq-div-mul c w k)))
+
+pub values_read : (ds : List Digit) (c : ℕ) → Weighed ds → map (value_read c) ds ≡ values_from (digit_sizes ds) c
+values_read ds c weighed =
+    values_over ds 1 c (λ a d is. weighed a d is ∙ sym (one-mul (weight (digit_sizes ds) a))) ∙ ap (values_from (digit_sizes ds)) (div-one c)

@@ -2,10 +2,12 @@
 // read and changed on the code itself; nothing is decoded for it.
 //
 // object   an object in a state
-// codes    the sizes and weights of the attributes; values by codes and back
+// digit    one attribute in a code
+// codes    the digits of all attributes; values by codes and back
 #![tactic(auto)]
 
 pub mod codes;
+pub mod digit;
 pub mod object;
 
 pub use codes::Codes;

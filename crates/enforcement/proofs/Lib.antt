@@ -1,5 +1,5 @@
-mod Loops
-mod Simulation
+pub mod Simulation
+pub mod Reading
 pub mod Fitting
 mod Holding
 mod Acting

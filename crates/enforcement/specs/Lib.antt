@@ -4,3 +4,4 @@ pub mod Actions
 pub mod Enforcement
 pub mod Relation
 pub mod Coded
+pub mod Meanings

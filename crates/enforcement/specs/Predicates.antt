@@ -1,5 +1,6 @@
 -- When a predicate holds, computed from the values of a subject and of an object that are there.
-use Rattle.std.specs.Prelude.{ℕ, Bool, true, false, not, ◌&&◌, List, [], ◌∷◌, is_some, Some, None, Option, ◌==◌, nat_eq, nat_le, nat_lt, slice_index_or}
+use Rattle.std.specs.Prelude.{ℕ, Bool, false, not, List, is_some, Some, None, Option, ◌==◌, nat_eq, nat_le, nat_lt, slice_index_or}
+use Rattle.std.specs.List.{list_all}
 use Rattle.scheme.specs.declared.terms.Party.{Party}
 use Rattle.scheme.specs.declared.terms.Party.TheVariants.{Subject, Object}
 use Rattle.scheme.specs.declared.terms.Term.{Term}
@@ -51,5 +52,4 @@ holds_on (predicate.Set t) u v = meets operator.Set (term_value t u v) None
 holds_on (predicate.Compare t c x) u v = meets (operator.Compare c) (term_value t u v) (operand_value x u v)
 
 abbrev pub all_hold : List Predicate → List (Option ℕ) → List (Option ℕ) → Bool
-all_hold [] u v = true
-all_hold (q ∷ qs) u v = holds_on q u v && all_hold qs u v
+all_hold qs u v = list_all (λ q. holds_on q u v) qs

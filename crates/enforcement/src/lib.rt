@@ -8,6 +8,7 @@
 
 pub mod actions;
 pub mod pair;
+mod parties;
 pub mod policy;
 pub mod predicates;
 

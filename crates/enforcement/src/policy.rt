@@ -3,9 +3,8 @@ ghost use Rattle.std.specs.Prelude.{◌≡◌};
 ghost use Rattle.codes.specs.Meanings.{sizes_in};
 ghost use Rattle.enforcement.specs.Coded.{enforced_pair};
 
-use crate::actions::run;
 use crate::pair::Pair;
-use crate::predicates::all_hold;
+use crate::parties::CodedPair;
 use codes::Codes;
 use scheme::terms::{Action, Predicate};
 
@@ -23,8 +22,9 @@ pub fn enforce(
     if pair.subject >= radix || pair.object >= radix {
         return None;
     }
-    if pair.subject == 0 || pair.object == 0 || !all_hold(codes, predicates, pair) {
+    let parties = CodedPair { codes, pair };
+    if pair.subject == 0 || pair.object == 0 || !parties.all_hold(predicates) {
         return None;
     }
-    run(codes, actions, pair)
+    parties.run(actions)
 }

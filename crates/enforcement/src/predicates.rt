@@ -1,12 +1,10 @@
 // Which predicates hold of a subject and an object that are there.
-ghost use Rattle.std.specs.Prelude.{◌≡◌, ◌-◌};
-ghost use Rattle.codes.specs.Codes.{values_from};
-ghost use Rattle.codes.specs.Meanings.{sizes_in};
+ghost use Rattle.std.specs.Prelude.{◌≡◌};
 ghost use Rattle.enforcement.specs.Predicates.{meets, term_value, operand_value, holds_on, all_hold};
+ghost use Rattle.enforcement.specs.Meanings.{subject_values, object_values};
 
-use crate::pair::Pair;
-use codes::Codes;
-use scheme::terms::{Comparison, Operand, Party, Predicate, Term};
+use crate::parties::CodedPair;
+use scheme::terms::{Comparison, Operand, Predicate, Term};
 
 // What a predicate asks of its two values; `null` and `set` ask of the left one alone.
 #[derive(Clone, Copy)]
@@ -33,50 +31,37 @@ fn meets_operator(operator: Operator, left: Option<u8>, right: Option<u8>) -> bo
     }
 }
 
-fn term_value(codes: &Codes, term: Term, pair: Pair) -> Option<u8>
-    ensures { result ≡ term_value term (values_from (sizes_in codes.now) (pair.subject - 1)) (values_from (sizes_in codes.now) (pair.object - 1)) }
-{
-    match term.party {
-        Party::Subject => codes.value(pair.subject, term.attribute),
-        Party::Object => codes.value(pair.object, term.attribute),
+impl<'a> CodedPair<'a> {
+    // What is null where the object is absent, for a policy asks only of objects that are there.
+    fn term_value(&self, term: Term) -> Option<u8>
+        ensures { result ≡ term_value term (subject_values self.now) (object_values self.now) }
+    {
+        self.read(term).flatten()
     }
-}
 
-fn operand_value(codes: &Codes, operand: Operand, pair: Pair) -> Option<u8>
-    ensures { result ≡ operand_value operand (values_from (sizes_in codes.now) (pair.subject - 1)) (values_from (sizes_in codes.now) (pair.object - 1)) }
-{
-    match operand {
-        Operand::SubjectAttribute(attribute) => codes.value(pair.subject, attribute),
-        Operand::ObjectAttribute(attribute) => codes.value(pair.object, attribute),
-        Operand::Constant(value) => Some(value),
+    fn operand_value(&self, operand: Operand) -> Option<u8>
+        ensures { result ≡ operand_value operand (subject_values self.now) (object_values self.now) }
+    {
+        self.source(operand).flatten()
     }
-}
 
-fn holds(codes: &Codes, predicate: Predicate, pair: Pair) -> bool
-    ensures { result ≡ holds_on predicate (values_from (sizes_in codes.now) (pair.subject - 1)) (values_from (sizes_in codes.now) (pair.object - 1)) }
-{
-    match predicate {
-        Predicate::Null(term) => meets_operator(
-            Operator::Null,
-            term_value(codes, term, pair),
-            None,
-        ),
-        Predicate::Set(term) => meets_operator(Operator::Set, term_value(codes, term, pair), None),
-        Predicate::Compare(term, comparison, operand) => meets_operator(
-            Operator::Compare(comparison),
-            term_value(codes, term, pair),
-            operand_value(codes, operand, pair),
-        ),
-    }
-}
-
-pub(crate) fn all_hold(codes: &Codes, predicates: &[Predicate], pair: Pair) -> bool
-    ensures { result ≡ all_hold predicates.now (values_from (sizes_in codes.now) (pair.subject - 1)) (values_from (sizes_in codes.now) (pair.object - 1)) }
-{
-    for predicate in predicates {
-        if !holds(codes, *predicate, pair) {
-            return false;
+    fn holds(&self, predicate: Predicate) -> bool
+        ensures { result ≡ holds_on predicate (subject_values self.now) (object_values self.now) }
+    {
+        match predicate {
+            Predicate::Null(term) => meets_operator(Operator::Null, self.term_value(term), None),
+            Predicate::Set(term) => meets_operator(Operator::Set, self.term_value(term), None),
+            Predicate::Compare(term, comparison, operand) => meets_operator(
+                Operator::Compare(comparison),
+                self.term_value(term),
+                self.operand_value(operand),
+            ),
         }
     }
-    true
+
+    pub(crate) fn all_hold(&self, predicates: &[Predicate]) -> bool
+        ensures { result ≡ all_hold predicates.now (subject_values self.now) (object_values self.now) }
+    {
+        predicates.iter().all(|predicate| self.holds(*predicate))
+    }
 }

@@ -1,15 +1,20 @@
-// Reading of at most so many bytes.
+// Reading of at most so many bytes, and texts one after another, each behind its length.
 #![tactic(auto)]
 
-ghost use Rattle.std.specs.Prelude.{◌≤◌, length, IfOk};
+ghost use Rattle.std.specs.Prelude.{◌≡◌, ◌≤◌, length, take, IfOk, IfSome};
+
+pub mod texts;
 
 use std::io;
 use std::io::Read;
+pub use texts::split_text;
 
-// Fills `buffer` from its front until the input ends or `buffer` is full; how many bytes came.
-pub fn read_up_to<R: Read>(input: &mut R, buffer: &mut [u8]) -> io::Result<usize>
-    ensures { IfOk result (λ n. n ≤ length buffer.new) }
+// Fills `buffer` from its front until the input ends or `buffer` is full; the bytes that came.
+pub fn read_up_to<'a, R: Read>(input: &mut R, buffer: &'a mut [u8]) -> io::Result<&'a [u8]>
+    ensures few { IfOk result (λ bytes. length bytes.now ≤ length buffer.old) }
+    ensures first { IfOk result (λ bytes. IfSome (R.remaining input.old) (λ left. bytes.now ≡ take (length buffer.old) left)) }
 {
+    // A loop that counts: a reader says how many bytes came, and the next are read behind them.
     let mut len = 0;
     while len < buffer.len() {
         let n = input.read(&mut buffer[len..])?;
@@ -18,5 +23,5 @@ pub fn read_up_to<R: Read>(input: &mut R, buffer: &mut [u8]) -> io::Result<usize
         }
         len += n;
     }
-    Ok(len)
+    Ok(&buffer[..len])
 }

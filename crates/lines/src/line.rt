@@ -1,85 +1,87 @@
-// The kind of a line whose words have the forms that its kind asks.
+// A line whose words have the forms that its kind asks.
 ghost use Rattle.std.specs.Prelude.{◌≡◌};
+ghost use Rattle.std.specs.Option.{option_map};
+ghost use Rattle.words.specs.Outcomes.{map_ok};
 ghost use Rattle.words.specs.Positions.{line_of, word_of};
 ghost use Rattle.words.specs.Cuts.{line_words};
 ghost use Rattle.lines.specs.Lines.{line_kind, right_count, form_check, right_forms, formed_as, formed_line};
+ghost use Rattle.lines.specs.Statements.{stated};
 
 use crate::fault::LineFault;
 use crate::order::{count_allowed, in_order, kind_in};
-use crate::role::forms::{fits, role};
+use crate::statement::Statement;
 use scheme::kind::Kind;
 use words::checks::check_line;
-use words::classify::classify;
-use words::cut::Words;
 use words::position::{Line, Word};
+use words::token::Token;
 
 // The kind of a line below one of kind `last`, or none where the line has no word.
 fn line_kind(line: Line, last: Option<Kind>) -> Result<Option<Kind>, LineFault>
     ensures { result ≡ line_kind last (line_words line.entry) }
 {
-    let Some(word) = Words::of(line).next() else {
+    let Some(word) = line.words().next() else {
         return Ok(None);
     };
     match kind_in(word.bytes) {
         Some(kind) if in_order(last, kind) => Ok(Some(kind)),
-        _ => Err(LineFault::Kind(word.spot())),
+        _ => Err(LineFault::Kind(word.spot)),
     }
 }
 
-fn check_count(kind: Kind, line: Line, attributes: usize) -> Result<(), LineFault>
-    ensures { result ≡ right_count kind attributes (line_words line.entry) }
-{
-    if count_allowed(kind, attributes, line.count_words()) {
+impl<'a> Statement<'a> {
+    fn check_count(self, attributes: usize) -> Result<(), LineFault>
+        ensures { result ≡ right_count self.entry.kind attributes (line_words self.entry.line) }
+    {
+        if count_allowed(self.kind, attributes, self.line.count_words()) {
+            Ok(())
+        } else {
+            Err(LineFault::Count(self.line.word(0).spot))
+        }
+    }
+
+    // The word at an index has a form that its role allows; the first word was judged by its bytes.
+    fn check_form(self, index: usize, word: Word) -> Result<(), LineFault>
+        ensures { result ≡ form_check self.entry.kind (line_words self.entry.line) index (word_of word.entry) }
+    {
+        if index == 0 || self.role(index).fits(Token::from(word)) {
+            Ok(())
+        } else {
+            Err(LineFault::Form(word.spot))
+        }
+    }
+
+    // Each word has a form that its role allows.
+    fn check_forms(self) -> Result<(), LineFault>
+        ensures { result ≡ right_forms self.entry.kind (line_words self.entry.line) }
+    {
+        for (index, word) in self.line.words().enumerate() {
+            self.check_form(index, word)?;
+        }
         Ok(())
-    } else {
-        Err(LineFault::Count(line.word(0).spot()))
+    }
+
+    fn check_formed(self, attributes: usize) -> Result<(), LineFault>
+        ensures { result ≡ formed_as self.entry.kind attributes (line_words self.entry.line) }
+    {
+        self.check_count(attributes)?;
+        self.check_forms()
     }
 }
 
-// The word at an index has a form that its role allows; the first word was judged by its bytes.
-fn check_form(kind: Kind, line: Line, index: usize, word: Word) -> Result<(), LineFault>
-    ensures { result ≡ form_check kind (line_words line.entry) index (word_of word.entry) }
-{
-    if index == 0 || fits(role(kind, line, index), classify(word)) {
-        Ok(())
-    } else {
-        Err(LineFault::Form(word.spot()))
-    }
-}
-
-// Each word has a form that its role allows.
-fn check_forms(kind: Kind, line: Line) -> Result<(), LineFault>
-    ensures { result ≡ right_forms kind (line_words line.entry) }
-{
-    let mut words = Words::of(line);
-    let mut index = 0;
-    while let Some(word) = words.next() {
-        check_form(kind, line, index, word)?;
-        index += 1;
-    }
-    Ok(())
-}
-
-fn check_formed(kind: Kind, line: Line, attributes: usize) -> Result<(), LineFault>
-    ensures { result ≡ formed_as kind attributes (line_words line.entry) }
-{
-    check_count(kind, line, attributes)?;
-    check_forms(kind, line)
-}
-
-// The kind of a line below one of kind `last`, none for a line with no word, or the first fault of
+// A line below one of kind `last` by its kind, none for a line with no word, or the first fault of
 // its words, its kind, their count or their forms.
-pub fn formed_line(
-    line: Line,
+pub fn formed_line<'a>(
+    line: Line<'a>,
     last: Option<Kind>,
     attributes: usize,
-) -> Result<Option<Kind>, LineFault>
-    ensures { result ≡ formed_line last attributes (line_of line.entry) }
+) -> Result<Option<Statement<'a>>, LineFault>
+    ensures { result ≡ map_ok (option_map (stated line.entry)) (formed_line last attributes (line_of line.entry)) }
 {
     check_line(line)?;
-    let kind = line_kind(line, last)?;
-    if let Some(kind) = kind {
-        check_formed(kind, line, attributes)?;
-    }
-    Ok(kind)
+    let Some(kind) = line_kind(line, last)? else {
+        return Ok(None);
+    };
+    let statement = Statement { kind, line };
+    statement.check_formed(attributes)?;
+    Ok(Some(statement))
 }

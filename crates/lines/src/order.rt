@@ -1,58 +1,22 @@
 // The kind that a first word names, and where a line of that kind may stand.
 ghost use Rattle.std.specs.Prelude.{◌≡◌};
-ghost use Rattle.std.specs.Str.{bytes_eq};
-ghost use Rattle.lines.specs.Kinds.{kind_in, rank as rank_of, last_rank as last_rank_of, in_order, count_allowed};
+ghost use Rattle.lines.specs.Kinds.{kind_in, in_order, count_allowed};
 
 use scheme::kind::Kind;
 
-pub fn is_word(word: &[u8], text: &[u8]) -> bool
-    ensures { result ≡ bytes_eq word.now text.now }
-{
-    word == text
-}
-
+#[tactic(auto, using(crate::proofs::Spelled::six_bytes))]
 pub(crate) fn kind_in(word: &[u8]) -> Option<Kind>
     ensures { result ≡ kind_in word.now }
 {
-    if is_word(word, b"attr") {
-        Some(Kind::Attr)
-    } else if is_word(word, b"right") {
-        Some(Kind::Right)
-    } else if is_word(word, b"object") {
-        Some(Kind::Object)
-    } else if is_word(word, b"policy") {
-        Some(Kind::Policy)
-    } else if is_word(word, b"if") {
-        Some(Kind::If)
-    } else if is_word(word, b"do") {
-        Some(Kind::Do)
-    } else if is_word(word, b"query") {
-        Some(Kind::Query)
-    } else {
-        None
-    }
-}
-
-fn rank(kind: Kind) -> u8
-    ensures { result ≡ rank_of kind }
-{
-    match kind {
-        Kind::Attr => 0,
-        Kind::Right => 1,
-        Kind::Object => 2,
-        Kind::Policy => 3,
-        Kind::If => 4,
-        Kind::Do => 5,
-        Kind::Query => 6,
-    }
-}
-
-fn last_rank(last: Option<Kind>) -> u8
-    ensures { result ≡ last_rank_of last }
-{
-    match last {
-        Some(kind) => rank(kind),
-        None => 0,
+    match word {
+        b"attr" => Some(Kind::Attr),
+        b"right" => Some(Kind::Right),
+        b"object" => Some(Kind::Object),
+        b"policy" => Some(Kind::Policy),
+        b"if" => Some(Kind::If),
+        b"do" => Some(Kind::Do),
+        b"query" => Some(Kind::Query),
+        _ => None,
     }
 }
 
@@ -60,15 +24,11 @@ fn last_rank(last: Option<Kind>) -> u8
 pub(crate) fn in_order(last: Option<Kind>, next: Kind) -> bool
     ensures { result ≡ in_order last next }
 {
-    let above = last_rank(last);
     match next {
-        Kind::Attr => above <= 0,
-        Kind::Right => above <= 1,
-        Kind::Object => above <= 2,
-        Kind::Policy => above <= 5,
-        Kind::If => 3 <= above && above <= 4,
-        Kind::Do => 3 <= above && above <= 5,
-        Kind::Query => true,
+        Kind::Attr | Kind::Right | Kind::Object | Kind::Query => last <= Some(next),
+        Kind::Policy => last <= Some(Kind::Do),
+        Kind::If => matches!(last, Some(Kind::Policy | Kind::If)),
+        Kind::Do => matches!(last, Some(Kind::Policy | Kind::If | Kind::Do)),
     }
 }
 

@@ -1,5 +1,5 @@
 -- A replay, turn by turn, and what it says of the calls of `enforce`.
-use Rattle.std.proofs.Common.{◌≡◌, ℕ, ◌+◌, ◌-◌, ◌<◌, ◌≤◌, Bool, true, cond, List, [], ◌∷◌, ◌++◌, map, length, get_or, take, drop, is_ok, Some, None, Ok, Err, Option, Result, sym, refl, ap, ◌∙◌, subst, arith}
+use Rattle.std.proofs.Common.{◌≡◌, ℕ, ◌+◌, ◌<◌, ◌≤◌, Bool, true, cond, List, [], ◌∷◌, ◌++◌, map, length, get_or, take, drop, is_ok, Some, None, Ok, Err, Option, Result, sym, refl, ap, ◌∙◌, subst, arith}
 use Rattle.std.proofs.lemmas.List.{length-append, at_drop_more, at_drop_all}
 use Rattle.std.specs.Result.{result_ok, result_and}
 use Rattle.std.specs.Option.{option_to_list}
@@ -122,9 +122,6 @@ module _ (system : System) where
 -- what grants every witness grants that of a leak
 pub witness_granted : (system : System) (q : Permission) (v : Verdict) (found : List Found) (witness : List ℕ) (count tried total : ℕ) (r : Bool)
     → v ≡ Leak count tried total → Safety system q (verdict_values v) found witness
-    → ((p : Permission) → Replays system p (take (total - 0) witness) → r ≡ true) → r ≡ true
+    → ((p : Permission) → Replays system p (take total witness) → r ≡ true) → r ≡ true
 witness_granted system q v found witness count tried total r e safe grants-all =
-    let whole : total ≡ total - 0 = omega arith in
-    grants-all q
-    (subst (λ (n : ℕ). Replays system q (take n witness)) whole
-    ((subst (λ (x : Verdict). Safety system q (verdict_values x) found witness) e safe).leak_is_replayed refl))
+    grants-all q ((subst (λ (x : Verdict). Safety system q (verdict_values x) found witness) e safe).leak_is_replayed refl)

@@ -1,6 +1,7 @@
 // Why a monitor refuses a call.
-ghost use Rattle.std.specs.Prelude.{◌≡◌};
 ghost use Rattle.monitor.specs.Denials.{denial_values};
+
+use protection::Numbered;
 
 #[derive(Clone, Copy)]
 pub enum Denial {
@@ -12,10 +13,10 @@ pub enum Denial {
     OutOfCounts,
 }
 
-impl Denial {
-    pub fn number(self) -> u32
-        ensures { result ≡ (denial_values self).number }
-    {
+impl Numbered for Denial {
+    ghost values = { denial_values };
+
+    fn number(self) -> u32 {
         match self {
             Denial::NoSuchMove => 60,
             Denial::NotEnabled => 61,

@@ -34,13 +34,8 @@ pub fn confirm<S: System>(
     ensures safety { Promise (meaning S.Walk S.System.own system.now) q result found.new witness.new }
 {
     let verdict = analyse(system, q, marks, found, witness)?;
-    if let Verdict::Leak {
-        found: _,
-        tried: _,
-        length,
-    } = verdict
-    {
-        if !replays(system, &witness[0..length as usize]) {
+    if let Verdict::Leak { length, .. } = verdict {
+        if !replays(system, &witness[..length as usize]) {
             unreachable()
         }
     }

@@ -43,9 +43,7 @@ impl<S: System> Monitor<S> {
         if mv >= self.system.moves() {
             return Err(Denial::NoSuchMove);
         }
-        let Some(next) = self.system.step(self.state, mv) else {
-            return Err(Denial::NotEnabled);
-        };
+        let next = self.system.step(self.state, mv).ok_or(Denial::NotEnabled)?;
         self.state = next;
         Ok(mv)
     }
@@ -59,10 +57,8 @@ impl<S: System> Monitor<S> {
         if !in_counts(&self.system, p) {
             return Err(Denial::OutOfCounts);
         }
-        match lowest_enabled(&self.system, self.state, p) {
-            Some(mv) => self.enforce(mv),
-            None => Err(Denial::NotEnabled),
-        }
+        let mv = lowest_enabled(&self.system, self.state, p).ok_or(Denial::NotEnabled)?;
+        self.enforce(mv)
     }
 
     // Says whether a move with that label is enabled.
@@ -107,13 +103,7 @@ impl<S: System> Monitor<S> {
 fn lowest_enabled<S: System>(system: &S, state: u32, p: Permission) -> Option<u32>
     ensures { result ≡ lowest_enabled (meaning S.Walk S.System.own system.now) state p }
 {
-    let moves = system.moves();
-    for mv in 0..moves {
-        if is_enabled_as(system, state, p, mv) {
-            return Some(mv);
-        }
-    }
-    None
+    (0..system.moves()).find(|mv| is_enabled_as(system, state, p, *mv))
 }
 
 // Whether a move is enabled in a state and has that label.

@@ -1,11 +1,15 @@
--- What `lowest` finds, and how a loop that counts up finds it.
-use Rattle.std.proofs.Common.{◌≡◌, ℕ, zero, suc, ◌+◌, ◌<◌, Bool, true, false, cond, Some, None, Option, refl, ap, ◌∙◌, ⊎_elim, add-one, arith}
+-- What `lowest` finds, and that `find` finds it.
+use Rattle.std.proofs.Common.{◌≡◌, ℕ, zero, suc, ◌<◌, ◌≤◌, Bool, true, false, cond, Some, None, Option, sym, refl, ap, ◌∙◌, ⊎_elim, arith}
+use Rattle.std.specs.Option.{MatchOption}
 use Rattle.std.proofs.lemmas.Bool.{cases_eq}
 use Rattle.protection.specs.Lowest.{lowest}
 
--- one more number that does not pass
-pub lowest_more : (test : ℕ → Bool) (i : ℕ) → lowest test i ≡ None → test i ≡ false → lowest test (i + 1) ≡ None
-lowest_more test i none here = simp (add-one, none, here)
+none_below : (test : ℕ → Bool) (n : ℕ) → ((k : ℕ) → k < n → test k ≡ false) → lowest test n ≡ None
+none_below test zero none = refl
+none_below test (suc n) none =
+    let before = none_below test n (λ k l. none k (omega arith)) in
+    let here = none n (omega arith) in
+    simp (before, here)
 
 -- what was found stays found
 lowest_stays : (test : ℕ → Bool) (i n : ℕ) → lowest test (suc i) ≡ Some i → i < n → lowest test n ≡ Some i
@@ -15,9 +19,14 @@ lowest_stays test i (suc n) found lt =
     (λ ne. let low : i < n = omega (arith, ne) in let before = lowest_stays test i n found low in simp before)
     (cases_eq n i)
 
--- the first number that passes is the lowest, however far the bound
-pub lowest_found : (test : ℕ → Bool) (i n : ℕ) → lowest test i ≡ None → test i ≡ true → i < n → lowest test n ≡ Some i
-lowest_found test i n none here lt = lowest_stays test i n (simp (none, here)) lt
+-- what `find` over the numbers below a bound answers is the lowest of them that passes
+pub lowest_of : (test : ℕ → Bool) (n : ℕ) (r : Option ℕ)
+    → MatchOption r ((k : ℕ) → 0 ≤ k → k < n → test k ≡ false) (λ i. (0 ≤ i) × (i < n) × (test i ≡ true) × ((k : ℕ) → 0 ≤ k → k < i → test k ≡ false))
+    → r ≡ lowest test n
+lowest_of test n None none = sym (none_below test n (λ k l. none k (omega arith) l))
+lowest_of test n (Some i) first =
+    let none = none_below test i (λ k l. first.3 k (omega arith) l) in
+    sym (lowest_stays test i n (simp (none, first.2)) first.1)
 
 -- the last number did not pass, nor did any before
 lowest_split : (test : ℕ → Bool) (n : ℕ) → lowest test (suc n) ≡ None → (lowest test n ≡ None) × (test n ≡ false)

@@ -1,21 +1,19 @@
 -- The safety promise, proved: what the search says of runs is said of histories.
-use Rattle.std.proofs.Common.{◌≡◌, ℕ, ◌+◌, ◌≤◌, Bool, true, false, cond, List, [], ◌∷◌, ◌++◌, map, length, take, is_some, Some, None, Ok, Err, sym, refl, ap, ◌∙◌, subst, inl, inr, arith}
-use Rattle.std.proofs.lemmas.Bool.{both_ways, cond-true}
+use Rattle.std.proofs.Common.{◌≡◌, ℕ, ◌+◌, ◌≤◌, true, false, List, [], ◌∷◌, ◌++◌, map, length, take, is_some, Some, Ok, sym, refl, ap, ◌∙◌, subst, inl, inr, arith}
+use Rattle.std.proofs.lemmas.Bool.{both_ways}
 use Rattle.std.proofs.lemmas.List.{length_push, map_push}
 use Rattle.walk.specs.declared.records.Found.{Found}
 use Rattle.walk.specs.declared.records.Ending.{Ending}
 use Rattle.walk.specs.declared.records.Ending.TheVariants.{Stopped, Exhausted}
 use Rattle.walk.specs.Walks.{Bounds}
 use Rattle.walk.specs.Search.{state_at}
-use Rattle.walk.specs.Results.{ending_of, large_enough, search_answer}
 use Rattle.walk.specs.Runs.{Leads, Meets, StoppedMeans, ExhaustedMeans, Means}
 use Rattle.walk.proofs.Reached.{run_last}
 use Rattle.walk.proofs.Law.{some_of}
 use Rattle.protection.specs.declared.permission.Permission.{Permission}
-use Rattle.protection.specs.Systems.{System, labelled, within_counts}
-use Rattle.protection.specs.Refusals.{refused}
+use Rattle.protection.specs.Systems.{System, labelled}
 use Rattle.protection.specs.Answers.{verdict_values, verdict_of}
-use Rattle.protection.specs.Analysis.{at_label, analysis, analysis_answer}
+use Rattle.protection.specs.Analysis.{at_label}
 use Rattle.protection.specs.Histories.{Call, enforce, lowest_enabled, after, history_leaves, history_grants, Contains, EndsInGrant}
 use Rattle.protection.specs.Safety.{Replays, Safety, Promise}
 use Rattle.protection.proofs.Labelled.{has_label_true, has_label_itself}
@@ -134,16 +132,3 @@ module _ (system : System) (bounds : Bounds system.walk) (q : Permission) where
       → Promise system q (Ok (verdict_of ending)) found witness
   promised (Stopped count tried total) found witness m = stopped_safe count tried total found witness m
   promised (Exhausted count tried) found witness m = exhausted_safe count tried found witness m
-
--- a permission within the counts is answered by the search
-pub answered : (system : System) (q : Permission) (ending : Ending) (marks found witness : ℕ) → within_counts system q ≡ true
-    → Some ending ≡ search_answer system.walk (at_label system q) marks found witness
-    → Ok (verdict_values (verdict_of ending)) ≡ analysis_answer system q marks found witness
-answered system q ending marks found witness inside e =
-    sym (cond-true (within_counts system q) _ (Err (refused 30)) inside
-    ∙ go (large_enough system.walk.states marks found witness) e)
-  where
-    go : (b : Bool) → Some ending ≡ cond b (Some (ending_of (analysis system q))) None
-        → cond b (Ok (verdict_values (verdict_of (ending_of (analysis system q))))) (Err (refused 31)) ≡ Ok (verdict_values (verdict_of ending))
-    go true h = let same : ending_of (analysis system q) ≡ ending = cc in ap (λ (x : Ending). Ok (verdict_values (verdict_of x))) same
-    go false h = let z : ◌≡◌ {A = ℕ} 0 1 = cc in absurd (omega arith)

@@ -3,14 +3,14 @@ ghost use Rattle.std.specs.Prelude.{◌≡◌, length};
 ghost use Rattle.protection.specs.Permissions.{has_label};
 ghost use Rattle.protection.specs.Systems.{within_counts};
 ghost use Rattle.protection.specs.Meaning.{meaning};
-ghost use Rattle.protection.specs.Answers.{told, verdict_of};
+ghost use Rattle.protection.specs.Answers.{told};
 ghost use Rattle.protection.specs.Analysis.{analysis_answer, marks_left, found_left, witness_left};
 ghost use Rattle.protection.specs.Safety.{Promise};
 
 use super::answers::{Refusal, Verdict};
 use super::interface::System;
 use super::permission::Permission;
-use walk::{Ending, Found, Goal, search};
+use walk::{Found, Goal, search};
 
 // Stops at a move labelled q.
 #[derive(Drop)]
@@ -52,26 +52,6 @@ pub fn analyse<S: System>(
         return Err(Refusal::OutOfCounts);
     }
     let goal = LabelledBy { system, q };
-    let Some(ending) = search(system, &goal, marks, found, witness) else {
-        return Err(Refusal::ShortTable);
-    };
-    Ok(verdict(ending))
-}
-
-// A search that an enabled move labelled q ended is a leak.
-fn verdict(ending: Ending) -> Verdict
-    ensures { result ≡ verdict_of ending }
-{
-    match ending {
-        Ending::Stopped {
-            found,
-            tried,
-            length,
-        } => Verdict::Leak {
-            found,
-            tried,
-            length,
-        },
-        Ending::Exhausted { found, tried } => Verdict::Never { found, tried },
-    }
+    let ending = search(system, &goal, marks, found, witness).ok_or(Refusal::ShortTable)?;
+    Ok(ending.into())
 }

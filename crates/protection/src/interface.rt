@@ -9,9 +9,6 @@ use walk::Walk;
 pub trait System: Walk {
     ghost labels: { Self → Labels };
 
-    // a member whose type is the fact, as a law would be
-    ghost counts: { (s : Self) → Counts (labels s) };
-
     fn objects(&self) -> u32
         ensures { result ≡ (labels self.now).objects };
 
@@ -22,4 +19,6 @@ pub trait System: Walk {
     fn label(&self, mv: u32) -> Option<Permission>
         ensures value { result ≡ (labels self.now).label mv }
         ensures exact { is_some result ≡ nat_lt mv (Self.Walk.model self.now).moves };
+
+    ghost counts: { (s : Self) → Counts (labels s) };
 }

@@ -5,9 +5,11 @@ pub mod analysis;
 pub mod answers;
 pub mod interface;
 pub mod lent;
+pub mod numbered;
 pub mod permission;
 
 pub use analysis::{analyse, in_counts};
 pub use answers::{Refusal, Verdict};
 pub use interface::System;
+pub use numbered::Numbered;
 pub use permission::Permission;

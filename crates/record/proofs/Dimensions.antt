@@ -10,7 +10,7 @@ use Rattle.record.specs.Schemes.{scheme_of}
 
 pub dimensions : (s : Scheme) → dimensions_of s.numbering ≡ record { sizes = sizes_of (scheme_of s); objects = object_count (scheme_of s) }
 dimensions s =
-    ap (λ ks. record { sizes = ks; objects = s.numbering.objects }) s.sized
+    ap (λ ks. record { sizes = ks; objects = (dimensions_of s.numbering).objects }) s.sized
     ∙ ap (λ n. record { sizes = sizes_of (scheme_of s); objects = n }) s.numbered
 
 pub states_counted : (s : Scheme) → size_states (dimensions_of s.numbering).sizes ^ (dimensions_of s.numbering).objects ≡ state_count (scheme_of s)

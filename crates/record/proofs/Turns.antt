@@ -1,7 +1,7 @@
 -- One turn of the loops over the objects of a state.
 use Rattle.std.proofs.Common.{◌≡◌, ℕ, suc, ◌+◌, ◌-◌, ◌*◌, ◌/◌, ◌%◌, ◌^◌, ◌<◌, ◌≤◌, Bool, true, false, cond, ◌&&◌, ltb, List, [], ◌∷◌, ◌++◌, map, length, get_or, drop, Some, None, sym, refl, ap, ◌∙◌, add_assoc, mul_comm, arith}
 use lib.Arith.{digits_lt}
-use Rattle.std.proofs.lemmas.List.{drop_more, drop_all, append_assoc, append-nil}
+use Rattle.std.proofs.lemmas.List.{drop_more, drop_all, append_assoc}
 use Rattle.std.proofs.lemmas.Bool.{lt-ltb, cond-true}
 use Rattle.scheme.specs.Sizes.{size_states}
 use Rattle.codes.specs.Objects.{ObjectState, object_fits}
@@ -68,11 +68,6 @@ state_more ks n i rest t t' whole x h is-object grown inv =
     ∙ ap (λ y. t ++ y ∷ state_from ks (n - (i + 1)) (rest / size_states ks)) is-object
     ∙ ap (λ k. t ++ state_from ks k rest) (sym left)
     ∙ inv
-
-pub state_all : (ks : List ℕ) (n i rest : ℕ) (t whole : State) → n ≤ i → t ++ state_from ks (n - i) rest ≡ whole → t ≡ whole
-state_all ks n i rest t whole h inv =
-    let left : n - i ≡ 0 = omega arith in
-    sym (append-nil t) ∙ ap (λ k. t ++ state_from ks k rest) (sym left) ∙ inv
 
 -- what a code below their count stands for
 pub object_known : {X : Type 0} (f : X → ObjectState) (ks : List ℕ) (c : ℕ) (x : X) → c < size_states ks

@@ -7,3 +7,4 @@ pub mod Places
 pub mod Numberings
 pub mod Schemes
 pub mod SystemLaws
+pub mod Uses

@@ -1,5 +1,5 @@
 -- Numberings of states, and the states that the code holds.
-use Rattle.std.specs.Prelude.{ℕ, ◌+◌, ◌/◌, ◌%◌, ◌^◌, Bool, cond, ◌&&◌, List, map, Some, None, Option, nat_le}
+use Rattle.std.specs.Prelude.{ℕ, ◌+◌, ◌/◌, ◌%◌, ◌^◌, Bool, cond, ◌&&◌, List, map, length, Some, None, Option, nat_le}
 use Rattle.bounded.specs.declared.Bounded.{Bounded}
 use Rattle.bounded.specs.Items.{items}
 use Rattle.scheme.specs.Sizes.{size_states}
@@ -16,7 +16,7 @@ pub record Dimensions : Type 0 where
   pub objects : ℕ
 
 abbrev pub dimensions_of : Numbering → Dimensions
-dimensions_of x = record { sizes = sizes_in x.codes; objects = x.objects }
+dimensions_of x = record { sizes = sizes_in x.codes; objects = length (items x.places) }
 
 -- there are at most 1,048,576 states, of one object and of all
 abbrev pub within_bounds : List ℕ → ℕ → Bool

@@ -46,7 +46,7 @@ states_some m =
 states_few : (s : Scheme) → state_count (scheme_of s) ≤ 1048576
 states_few s =
     let e : s.numbering.states ≡ state_count (scheme_of s) =
-    s.numbering.counted ∙ ap (λ ks. size_states ks ^ s.numbering.objects) s.sized ∙ ap (λ n. size_states (sizes_of (scheme_of s)) ^ n) s.numbered
+    s.numbering.counted ∙ ap (λ ks. size_states ks ^ length (items s.numbering.places)) s.sized ∙ ap (λ n. size_states (sizes_of (scheme_of s)) ^ n) s.numbered
     ∙ sym (state_count_sizes (scheme_of s)) in
     omega (arith, s.numbering.few)
 
@@ -99,7 +99,7 @@ pub scheme_counts : (s : Scheme) → Counts (labels_of (scheme_of s))
 scheme_counts s =
     let m = scheme_of s in
     record {
-      objects_few = omega (arith, s.numbering.fits, s.numbered);
+      objects_few = omega (arith, length_items 8 s.numbering.places, s.numbered);
       rights_few = let e = length-map (items s.draft.rights) items in omega (arith, length_items 16 s.draft.rights);
       label_within = λ v p e.
           let h = label_parts m v p e in

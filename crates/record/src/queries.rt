@@ -5,6 +5,7 @@ ghost use Rattle.record.specs.Systems.{permission_asked};
 use protection::Permission;
 use scheme::entries::Query;
 
+// A function and no `From`: both types are of other crates.
 pub fn permission_asked(query: Query) -> Permission
     ensures { result ≡ permission_asked query }
 {

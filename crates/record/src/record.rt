@@ -8,6 +8,7 @@ ghost use Rattle.scheme.specs.Drafts.{draft_of};
 ghost use Rattle.scheme.specs.WellFormed.{well_formed};
 ghost use Rattle.codes.specs.Meanings.{sizes_in};
 ghost use Rattle.record.specs.States.{number};
+ghost use Rattle.record.specs.Numberings.{dimensions_of};
 ghost use Rattle.record.specs.Moves.{move_at};
 ghost use Rattle.record.specs.Systems.{object_count, start_state, Step};
 
@@ -24,7 +25,7 @@ pub struct Scheme {
     moves: Bounded<Move, 2048>,
     ghost formed: { well_formed (draft_of draft) ≡ true },
     ghost sized: { sizes_in numbering.codes ≡ sizes_of (draft_of draft) },
-    ghost numbered: { numbering.objects ≡ object_count (draft_of draft) },
+    ghost numbered: { (dimensions_of numbering).objects ≡ object_count (draft_of draft) },
     ghost started: { start ≡ number (sizes_of (draft_of draft)) (start_state (draft_of draft)) },
     ghost listed: { items moves ≡ map (move_at (object_count (draft_of draft))) (range_with_len 0 (move_count (draft_of draft))) },
     ghost begun: { start < state_count (draft_of draft) },
@@ -35,3 +36,4 @@ mod makes;
 mod states;
 mod steps;
 pub mod system;
+mod uses;

@@ -1,7 +1,8 @@
 -- Bytes appended part by part, and an element at a time.
-use Rattle.std.proofs.Common.{◌≡◌, ℕ, ◌+◌, ◌<◌, ◌≤◌, true, List, [], ◌∷◌, ◌++◌, map, length, get_or, take, drop, is_err, Ok, Err, Result, Vec, sym, refl, ap, ◌∙◌, subst, append_assoc, append-nil, arith, length-append}
+use Rattle.std.proofs.Common.{◌≡◌, ℕ, ◌+◌, ◌<◌, ◌≤◌, true, List, [], ◌∷◌, ◌++◌, length, get_or, take, drop, is_err, Ok, Err, Result, Vec, sym, ap, ◌∙◌, subst, append_assoc, append-nil, arith, length-append}
 use Rattle.std.specs.List.{flat_map}
 use Rattle.std.proofs.lemmas.List.{take_all, take-append-drop, take_more, drop_more}
+use Rattle.std.proofs.lemmas.Grind.{flat_map-append}
 use Rattle.std.proofs.lemmas.Result.{MatchResult-from_err}
 use Rattle.std.specs.declared.alloc.AllocError.{AllocError}
 use Rattle.std.specs.declared.alloc.Global.{Global}
@@ -46,43 +47,34 @@ appended_then (Err e) u v w xs ys p q = short_then u v w xs ys p q
 pub at_exit : (r : Result (Unit {0}) AllocError) (u v : Bytes) (bs : List ℕ) → is_err r ≡ true → Short u v bs → Appended r u v bs
 at_exit r u v bs e p = MatchResult-from_err r _ _ e (λ _. p)
 
--- what f gives of each element, one after another
+-- what f gives of each element, one after another: the elements before the i-th, the i-th, and those after it
 
-joined_append : {A : Type 0} (f : A → List ℕ) (xs ys : List A) → flat_map f (xs ++ ys) ≡ flat_map f xs ++ flat_map f ys
-joined_append f [] ys = refl
-joined_append f (x ∷ xs) ys = ap (λ (l : List ℕ). f x ++ l) (joined_append f xs ys) ∙ sym (append_assoc (f x) (flat_map f xs) (flat_map f ys))
+joined_at : {A : Type 0} (f : A → List ℕ) (xs : List A) (i : ℕ) (d : A) → i < length xs
+    → flat_map f (take i xs) ++ (f (get_or xs i d) ++ flat_map f (drop (i + 1) xs)) ≡ flat_map f xs
+joined_at f xs i d h =
+    sym (flat_map-append f (take i xs) (get_or xs i d ∷ drop (i + 1) xs))
+    ∙ ap (λ l. flat_map f (take i xs ++ l)) (sym (drop_more xs i d h))
+    ∙ ap (flat_map f) (take-append-drop i xs)
 
--- the elements before the i-th, the i-th, and those after it
-joined_at : {A : Type 0} (f : A → List ℕ) (xs : List A) (i : ℕ) (d x : A) → x ≡ get_or xs i d → i < length xs
-    → flat_map f (take i xs) ++ (f x ++ flat_map f (drop (i + 1) xs)) ≡ flat_map f xs
-joined_at f xs i d x e h =
-    sym (joined_append f (take i xs) (x ∷ drop (i + 1) xs))
-    ∙ (ap (λ y. flat_map f (take i xs ++ (y ∷ drop (i + 1) xs))) e
-    ∙ (ap (λ l. flat_map f (take i xs ++ l)) (sym (drop_more xs i d h)) ∙ ap (flat_map f) (take-append-drop i xs)))
+joined_more : {A : Type 0} (f : A → List ℕ) (xs : List A) (i : ℕ) (d : A) → i < length xs
+    → flat_map f (take i xs) ++ f (get_or xs i d) ≡ flat_map f (take (i + 1) xs)
+joined_more f xs i d h =
+    ap (λ (l : List ℕ). flat_map f (take i xs) ++ l) (sym (append-nil (f (get_or xs i d))))
+    ∙ sym (flat_map-append f (take i xs) (get_or xs i d ∷ []))
+    ∙ ap (flat_map f) (sym (take_more xs i d h))
 
-joined_more : {A : Type 0} (f : A → List ℕ) (xs : List A) (i : ℕ) (d x : A) → x ≡ get_or xs i d → i < length xs
-    → flat_map f (take i xs) ++ f x ≡ flat_map f (take (i + 1) xs)
-joined_more f xs i d x e h =
-    ap (λ (l : List ℕ). flat_map f (take i xs) ++ l) (sym (append-nil (f x)))
-    ∙ (sym (joined_append f (take i xs) (x ∷ []))
-    ∙ (ap (λ y. flat_map f (take i xs ++ (y ∷ []))) e ∙ ap (flat_map f) (sym (take_more xs i d h))))
+-- a loop over xs: a turn at an element, an exit there, and the end
+pub grown_more : {A : Type 0} (f : A → List ℕ) (xs : List A) (i : ℕ) (d : A) (u v w : Bytes) → i < length xs
+    → Grown u v (flat_map f (take i xs)) → Grown v w (f (get_or xs i d)) → Grown u w (flat_map f (take (i + 1) xs))
+grown_more f xs i d u v w h p q =
+    subst (Grown u w) (joined_more f xs i d h) (grown_then u v w (flat_map f (take i xs)) (f (get_or xs i d)) p q)
 
--- a loop over xs: a turn at the element x, an exit there, and the end
-pub grown_more : {A : Type 0} (f : A → List ℕ) (xs : List A) (i : ℕ) (d x : A) (u v w : Bytes) → x ≡ get_or xs i d → i < length xs
-    → Grown u v (flat_map f (take i xs)) → Grown v w (f x) → Grown u w (flat_map f (take (i + 1) xs))
-grown_more f xs i d x u v w e h p q =
-    subst (Grown u w) (joined_more f xs i d x e h) (grown_then u v w (flat_map f (take i xs)) (f x) p q)
-
-pub short_at : {A : Type 0} (f : A → List ℕ) (xs : List A) (i : ℕ) (d x : A) (u v w : Bytes) → x ≡ get_or xs i d → i < length xs
-    → Grown u v (flat_map f (take i xs)) → Short v w (f x) → Short u w (flat_map f xs)
-short_at f xs i d x u v w e h p q =
-    subst (Short u w) (joined_at f xs i d x e h)
-    (short_then u v w (flat_map f (take i xs)) _ p (short_first v w (f x) (flat_map f (drop (i + 1) xs)) q))
+pub short_at : {A : Type 0} (f : A → List ℕ) (xs : List A) (i : ℕ) (d : A) (u v w : Bytes) → i < length xs
+    → Grown u v (flat_map f (take i xs)) → Short v w (f (get_or xs i d)) → Short u w (flat_map f xs)
+short_at f xs i d u v w h p q =
+    subst (Short u w) (joined_at f xs i d h)
+    (short_then u v w (flat_map f (take i xs)) _ p (short_first v w (f (get_or xs i d)) (flat_map f (drop (i + 1) xs)) q))
 
 pub grown_all : {A : Type 0} (f : A → List ℕ) (xs : List A) (i : ℕ) (u v : Bytes) → length xs ≤ i
     → Grown u v (flat_map f (take i xs)) → Grown u v (flat_map f xs)
 grown_all f xs i u v h p = subst (Grown u v) (ap (flat_map f) (take_all i xs h)) p
-
-pub joined_map : {A B : Type 0} (f : B → List ℕ) (g : A → B) (xs : List A) → flat_map (λ x. f (g x)) xs ≡ flat_map f (map g xs)
-joined_map f g [] = refl
-joined_map f g (x ∷ xs) = ap (λ (l : List ℕ). f (g x) ++ l) (joined_map f g xs)

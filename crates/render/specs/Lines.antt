@@ -1,7 +1,6 @@
 -- A line of words, as bytes.
 use Rattle.std.specs.Prelude.{ℕ, List, [], ◌∷◌, ◌++◌, map, decimal}
 use Rattle.std.specs.List.{flat_map}
-use Rattle.bounded.specs.Items.{items}
 use Rattle.render.specs.declared.words.Word.{Word}
 use Rattle.render.specs.declared.words.Word.TheVariants.{Text, Number}
 
@@ -15,7 +14,7 @@ line head ws = head ++ (flat_map spaced ws ++ (10 ∷ []))
 
 -- a name, or a number in decimal without leading zeros
 abbrev pub word_of : Word → List ℕ
-word_of (Text name) = items name
+word_of (Text name) = name.now
 word_of (Number n) = decimal n
 
 abbrev pub line_of : List ℕ → List Word → List ℕ

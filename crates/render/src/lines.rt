@@ -9,8 +9,8 @@ use crate::words::{Word, put_word};
 use std::alloc::AllocError;
 
 // A space and a word.
-fn put_next(out: &mut Vec<u8>, word: Word) -> Result<(), AllocError>
-    ensures { Appended result out.old out.new (spaced (word_of word)) }
+fn put_next(out: &mut Vec<u8>, word: &Word) -> Result<(), AllocError>
+    ensures { Appended result out.old out.new (spaced (word_of word.now)) }
 {
     put(out, b" ")?;
     put_word(out, word)
@@ -20,7 +20,7 @@ fn put_words(out: &mut Vec<u8>, words: &[Word]) -> Result<(), AllocError>
     ensures { Appended result out.old out.new (flat_map spaced (map word_of words.now)) }
 {
     for word in words {
-        put_next(out, *word)?;
+        put_next(out, word)?;
     }
     Ok(())
 }

@@ -4,12 +4,12 @@ ghost use Rattle.render.specs.Appended.{Appended};
 ghost use Rattle.render.specs.Lines.{word_of};
 
 use crate::bytes::put;
-use scheme::names::Name;
+use itoa::Buffer;
 use std::alloc::AllocError;
 
 #[derive(Clone, Copy)]
-pub enum Word {
-    Text(Name),
+pub enum Word<'a> {
+    Text(&'a [u8]),
     // In decimal, without leading zeros.
     Number(u64),
 }
@@ -17,17 +17,14 @@ pub enum Word {
 fn put_number(out: &mut Vec<u8>, n: u64) -> Result<(), AllocError>
     ensures { Appended result out.old out.new (decimal n) }
 {
-    if n >= 10 {
-        put_number(out, n / 10)?;
-    }
-    put(out, &[b'0' + (n % 10) as u8])
+    put(out, Buffer::new().format(n).as_bytes())
 }
 
-pub(crate) fn put_word(out: &mut Vec<u8>, word: Word) -> Result<(), AllocError>
-    ensures { Appended result out.old out.new (word_of word) }
+pub(crate) fn put_word(out: &mut Vec<u8>, word: &Word) -> Result<(), AllocError>
+    ensures { Appended result out.old out.new (word_of word.now) }
 {
-    match word {
-        Word::Text(name) => put(out, name.as_slice()),
+    match *word {
+        Word::Text(name) => put(out, name),
         Word::Number(n) => put_number(out, n),
     }
 }

@@ -2,27 +2,28 @@
 use super::*;
 use std::alloc::Global;
 use std::test::Fail;
+use words::fault::Report;
 
-// The number, line and place of a refusal; or 0 and the counts of states and moves.
-fn told(text: &[u8]) -> (u32, usize, usize) {
-    match headline_of(text) {
-        Headline::Accepted(states, moves) => (0, states as usize, moves as usize),
-        Headline::Refused(report) => (report.number, report.line, report.place),
-    }
+fn refused(number: u32, line: usize, place: usize) -> Headline {
+    Headline::Refused(Report {
+        number,
+        line,
+        place,
+    })
 }
 
 #[test]
 fn examples(rt: HostRuntime) {
-    assert_eq!(rt; told(b"attr a 0"), (22, 1, 8));
-    assert_eq!(rt; told(b""), (24, 1, 1));
-    assert_eq!(rt; told(b"\n"), (24, 2, 1));
+    assert_eq!(rt; headline_of(b"attr a 0"), refused(22, 1, 8));
+    assert_eq!(rt; headline_of(b""), refused(24, 1, 1));
+    assert_eq!(rt; headline_of(b"\n"), refused(24, 2, 1));
     assert_eq!(rt;
-        told(b"attr a 2\nattr b 10\nattr c 30\nright r\nobject x - - -\nobject y - - -\n"),
-        (0, 1_048_576, 0)
+        headline_of(b"attr a 2\nattr b 10\nattr c 30\nright r\nobject x - - -\nobject y - - -\n"),
+        Headline::Accepted(1_048_576, 0)
     );
     assert_eq!(rt;
-        told(b"attr a 31\nattr b 31\nright r\nobject x - -\nobject y - -\n"),
-        (25, 6, 1)
+        headline_of(b"attr a 31\nattr b 31\nright r\nobject x - -\nobject y - -\n"),
+        refused(25, 6, 1)
     );
 }
 
@@ -34,11 +35,11 @@ fn filled(heap: Global, byte: u8, len: usize) -> Result<Vec<u8>, Fail> {
 #[test]
 fn longest_and_longer(rt: HostRuntime) -> Result<(), Fail> {
     let most = filled(rt.alloc(), b'\n', 65_535)?;
-    assert_eq!(rt; told(most.as_slice()), (24, 65_536, 1));
+    assert_eq!(rt; headline_of(most.as_slice()), refused(24, 65_536, 1));
     let more = filled(rt.alloc(), b'\n', 65_536)?;
-    assert_eq!(rt; told(more.as_slice()), (4, 0, 0));
+    assert_eq!(rt; headline_of(more.as_slice()), refused(4, 0, 0));
     let tabs = filled(rt.alloc(), b'\t', 65_536)?;
-    assert_eq!(rt; told(tabs.as_slice()), (4, 0, 0));
+    assert_eq!(rt; headline_of(tabs.as_slice()), refused(4, 0, 0));
     Ok(())
 }
 
@@ -50,10 +51,10 @@ fn one_long_line(rt: HostRuntime) -> Result<(), Fail> {
             *byte = b' ';
         }
     }
-    assert_eq!(rt; told(words.as_slice()), (10, 1, 1));
+    assert_eq!(rt; headline_of(words.as_slice()), refused(10, 1, 1));
     let spaces = filled(rt.alloc(), b' ', 65_535)?;
-    assert_eq!(rt; told(spaces.as_slice()), (24, 2, 1));
+    assert_eq!(rt; headline_of(spaces.as_slice()), refused(24, 2, 1));
     let word = filled(rt.alloc(), b'a', 65_535)?;
-    assert_eq!(rt; told(word.as_slice()), (2, 1, 1));
+    assert_eq!(rt; headline_of(word.as_slice()), refused(2, 1, 1));
     Ok(())
 }

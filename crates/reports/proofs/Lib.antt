@@ -1,3 +1,3 @@
-mod Numbered
-mod Evidence
+mod Named
+pub mod Made
 pub mod Sound

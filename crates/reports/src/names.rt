@@ -1,36 +1,30 @@
-// Names by their numbers; the empty name where there is none.
-ghost use Rattle.std.specs.Prelude.{◌≡◌};
-ghost use Rattle.bounded.specs.Items.{items};
+// Names by the numbers of their entries; no byte where there is no such entry.
+ghost use Rattle.std.specs.Prelude.{◌≡◌, [], map, slice_index_or};
+ghost use Rattle.scheme.specs.Models.{names_of};
 ghost use Rattle.scheme.specs.Drafts.{draft_of};
-ghost use Rattle.reports.specs.Names.{object_name, right_name, policy_name};
 
-use bounded::Bounded;
 use scheme::draft::Draft;
-use scheme::names::Name;
+use scheme::kind::Kind;
+use scheme::names::Named;
 
-pub(crate) fn object_name(draft: &Draft, number: u32) -> Name
-    ensures { items result ≡ object_name (draft_of draft.now) number }
+fn name_at<T: Named>(entries: &[T], number: u32) -> &[u8]
+    ensures { result.now ≡ slice_index_or (map T.named entries.now) number [] }
 {
-    match draft.objects().get(number as usize) {
-        Some(object) => object.name,
-        None => Bounded::new(0),
+    match entries.get(number as usize) {
+        Some(entry) => entry.name(),
+        None => &[],
     }
 }
 
-pub(crate) fn right_name(draft: &Draft, number: u32) -> Name
-    ensures { items result ≡ right_name (draft_of draft.now) number }
+// The name of an entry of this kind.
+pub(crate) fn name_of(draft: &Draft, kind: Kind, number: u32) -> &[u8]
+    ensures { result.now ≡ slice_index_or (names_of kind (draft_of draft.now)) number [] }
 {
-    match draft.rights().get(number as usize) {
-        Some(name) => *name,
-        None => Bounded::new(0),
-    }
-}
-
-pub(crate) fn policy_name(draft: &Draft, number: u32) -> Name
-    ensures { items result ≡ policy_name (draft_of draft.now) number }
-{
-    match draft.policies().get(number as usize) {
-        Some(policy) => policy.name,
-        None => Bounded::new(0),
+    match kind {
+        Kind::Attr => name_at(draft.attributes(), number),
+        Kind::Right => name_at(draft.rights(), number),
+        Kind::Object => name_at(draft.objects(), number),
+        Kind::Policy => name_at(draft.policies(), number),
+        Kind::If | Kind::Do | Kind::Query => &[],
     }
 }

@@ -1,30 +1,17 @@
 // All that is printed of a text.
 ghost use Rattle.std.specs.Prelude.{◌≡◌, true, Ok};
 ghost use Rattle.scheme.specs.Models.{SchemeModel};
-ghost use Rattle.scheme.specs.Drafts.{draft_of};
 ghost use Rattle.text.specs.Reading.{reading};
 ghost use Rattle.record.specs.Accepted.{accepted};
 ghost use Rattle.render.specs.Appended.{Appended};
-ghost use Rattle.reports.specs.Reports.{output_of, annex_output};
+ghost use Rattle.reports.specs.Reports.{annex_output};
 
 use crate::refusal::put_refusal;
 use crate::whole::put_report;
 use record::Scheme;
-use scheme::draft::Draft;
 use scheme::record::Scheme as Declared;
 use std::alloc::AllocError;
 use text::read::read;
-
-// The report of what a text declares, which is accepted as a scheme record.
-fn put_declared(out: &mut Vec<u8>, draft: Draft) -> Result<(), AllocError>
-    requires { accepted (draft_of draft) ≡ true }
-    ensures { Appended result out.old out.new (output_of (Ok (draft_of draft))) }
-{
-    match Scheme::of(draft) {
-        Some(scheme) => put_report(out, &scheme, scheme.draft()),
-        None => unreachable(),
-    }
-}
 
 // Appends the report of a text, or its refusal. Want of memory is the only other answer, and it can
 // come only where the bytes had no room. `accepted`: what a text declares that is read is always
@@ -35,7 +22,10 @@ pub fn annex(out: &mut Vec<u8>, text: &[u8]) -> Result<(), AllocError>
 {
     let mut declared = Declared::bare();
     match read(&mut declared, text) {
-        Ok(()) => put_declared(out, *declared.draft()),
+        Ok(()) => {
+            let scheme = Scheme::of(*declared.draft()).unwrap();
+            put_report(out, &scheme, scheme.draft())
+        }
         Err(fault) => put_refusal(out, fault.report()),
     }
 }

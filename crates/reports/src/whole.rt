@@ -6,15 +6,12 @@ ghost use Rattle.render.specs.Appended.{Appended};
 ghost use Rattle.reports.specs.Answers.{answer_lines};
 ghost use Rattle.reports.specs.Reports.{scheme_line, report_lines};
 
-use crate::answers::put_answer;
+use crate::answers::Asked;
+use crate::tables::Tables;
 use protection::System;
 use render::{Word, put_line};
 use scheme::draft::Draft;
 use std::alloc::AllocError;
-use walk::Found;
-
-// The entries of each table of an analysis.
-const ENTRIES: usize = 4096;
 
 fn put_counts<S: System>(out: &mut Vec<u8>, system: &S) -> Result<(), AllocError>
     ensures { Appended result out.old out.new (scheme_line (meaning S.Walk S.System.own system.now)) }
@@ -28,25 +25,14 @@ fn put_counts<S: System>(out: &mut Vec<u8>, system: &S) -> Result<(), AllocError
 fn put_answers<S: System>(out: &mut Vec<u8>, system: &S, draft: &Draft) -> Result<(), AllocError>
     ensures { Appended result out.old out.new (flat_map (answer_lines (draft_of draft.now) (meaning S.Walk S.System.own system.now)) (draft_of draft.now).queries) }
 {
-    let mut marks = [0u32; ENTRIES];
-    let nothing = Found {
-        state: 0,
-        parent: 0,
-        mv: 0,
-    };
-    let mut found = [nothing; ENTRIES];
-    let mut witness = [0u32; ENTRIES];
+    let mut tables = Tables::new();
     let queries = draft.queries();
     for query in queries {
-        put_answer(
-            out,
-            system,
+        let asked = Asked {
             draft,
-            *query,
-            &mut marks,
-            &mut found,
-            &mut witness,
-        )?;
+            query: *query,
+        };
+        asked.put_answer(out, system, &mut tables)?;
     }
     Ok(())
 }

@@ -1,7 +1,7 @@
 -- Products that are cut off at a bound L.
-use Rattle.std.proofs.Common.{◌≡◌, ℕ, zero, suc, ◌+◌, ◌*◌, ◌^◌, ◌<◌, ◌≤◌, min, List, map, length, get_or, drop, sym, ap, ◌∙◌, ⊎_elim, mul_assoc, mul_comm, mul-le-mul, pow-suc, mul-zero, mul-one, add-one, arith}
-use native.Mathlib.Nat.{min-eq_left, min-eq_right, min-le_right, pow-zero}
-use Rattle.std.proofs.lemmas.List.{at_drop_more, at_drop_all}
+use Rattle.std.proofs.Common.{◌≡◌, ℕ, zero, suc, ◌+◌, ◌*◌, ◌^◌, ◌<◌, ◌≤◌, min, List, [], ◌∷◌, ◌++◌, map, length, sym, ap, ◌∙◌, ⊎_elim, mul_assoc, mul_comm, mul-le-mul, pow-suc, mul-zero, mul-one, one-mul, add-one, arith}
+use native.Mathlib.Nat.{min-eq_left, min-eq_right, pow-zero}
+use Rattle.std.proofs.lemmas.List.{length_push, map_push}
 use Rattle.std.proofs.lemmas.Bool.{cases_lt}
 use Rattle.scheme.specs.Models.{AttributeModel}
 use Rattle.scheme.specs.Counts.{combinations}
@@ -39,27 +39,33 @@ module _ (L : ℕ) where
       (cases_lt c L)
 
   -- one attribute more
-  pub combinations_more : {X : Type 0} (f : X → AttributeModel) (xs : List X) (i product r t : ℕ) (x : X) → i < length xs → x ≡ get_or xs i x → r ≡ min (product * ((f x).size + 1)) L → min (product * combinations (map f (drop i xs))) L ≡ t → (min (r * combinations (map f (drop (i + 1) xs))) L ≡ t) × (r ≤ L)
-  combinations_more f xs i product r t x h read made inv =
-      let rest = combinations (map f (drop (i + 1) xs)) in (
-        ap (λ n. min (n * rest) L) made ∙ cap_mul (product * ((f x).size + 1)) rest ∙ ap (λ n. min n L) (mul_assoc product ((f x).size + 1) rest)
-            ∙ ap (λ y. min (product * (((f y).size + 1) * rest)) L) read ∙ ap (λ n. min (product * n) L) (sym (at_drop_more (λ l. combinations (map f l)) xs i x h)) ∙ inv,
-        let low = min-le_right (product * ((f x).size + 1)) L in omega arith,
-      )
 
-  pub combinations_all : {X : Type 0} (f : X → AttributeModel) (xs : List X) (i product t : ℕ) → length xs ≤ i → product ≤ L → min (product * combinations (map f (drop i xs))) L ≡ t → product ≡ t
-  combinations_all f xs i product t h le inv =
-      sym (min-eq_left le) ∙ ap (λ n. min n L) (sym (mul-one product)) ∙ ap (λ n. min (product * n) L) (sym (at_drop_all (λ l. combinations (map f l)) xs i h)) ∙ inv
+  combinations-append : (as' : List AttributeModel) (a : AttributeModel) → combinations (as' ++ a ∷ []) ≡ combinations as' * (a.size + 1)
+  combinations-append [] a = mul-one (a.size + 1) ∙ sym (one-mul (a.size + 1))
+  combinations-append (b ∷ as') a = ap (λ n. (b.size + 1) * n) (combinations-append as' a) ∙ sym (mul_assoc (b.size + 1) (combinations as') (a.size + 1))
+
+  pub combinations_none : 1 ≤ L → 1 ≡ min 1 L
+  combinations_none h = sym (min-eq_left h)
+
+  pub combinations_more : {X : Type 0} (f : X → AttributeModel) (xs : List X) (x : X) (product : ℕ) → product ≡ min (combinations (map f xs)) L
+      → min (product * ((f x).size + 1)) L ≡ min (combinations (map f (xs ++ x ∷ []))) L
+  combinations_more f xs x product so_far =
+      ap (λ n. min (n * ((f x).size + 1)) L) so_far
+      ∙ cap_mul (combinations (map f xs)) ((f x).size + 1)
+      ∙ ap (λ n. min n L) (sym (combinations-append (map f xs) (f x)))
+      ∙ ap (λ l. min (combinations l) L) (sym (map_push f xs x))
 
   -- one object more
-  pub power_more : (codes i states r : ℕ) → states ≡ min (codes ^ i) L → r ≡ min (states * codes) L → (r ≡ min (codes ^ (i + 1)) L) × (r ≤ L)
-  power_more codes i states r inv made = (
-    made ∙ ap (λ x. min (x * codes) L) inv ∙ cap_mul (codes ^ i) codes ∙ ap (λ x. min x L) (sym (pow-suc codes i) ∙ ap (λ k. codes ^ k) (sym (add-one i))),
-    let low = min-le_right (states * codes) L in omega arith,
-  )
-
-  pub power_all : (c codes n states : ℕ) → codes ≡ min c L + 1 → states ≡ min (codes ^ n) L → states ≡ min ((1 + c) ^ n) L
-  power_all c codes n states is inv = inv ∙ cap_pow codes (1 + c) n (ap (λ x. min x L) is ∙ cap_suc c)
 
   pub power_none : (codes : ℕ) → 1 ≤ L → 1 ≡ min (codes ^ 0) L
   power_none codes h = sym (ap (λ x. min x L) (pow-zero codes) ∙ min-eq_left h)
+
+  pub power_more : {X : Type 0} (codes : ℕ) (xs : List X) (x : X) (states : ℕ) → states ≡ min (codes ^ length xs) L → min (states * codes) L ≡ min (codes ^ length (xs ++ x ∷ [])) L
+  power_more codes xs x states so_far =
+      ap (λ n. min (n * codes) L) so_far
+      ∙ cap_mul (codes ^ length xs) codes
+      ∙ ap (λ n. min n L) (sym (pow-suc codes (length xs)))
+      ∙ ap (λ k. min (codes ^ k) L) (sym (length_push xs x ∙ add-one (length xs)))
+
+  pub power_all : (c codes n states : ℕ) → codes ≡ min c L + 1 → states ≡ min (codes ^ n) L → states ≡ min ((1 + c) ^ n) L
+  power_all c codes n states is inv = inv ∙ cap_pow codes (1 + c) n (ap (λ x. min x L) is ∙ cap_suc c)

@@ -1,6 +1,6 @@
 mod Search
-mod Rows
 pub mod Lists
+mod Last
 mod Caps
 pub mod Sizes
 mod Fits

@@ -1,27 +1,23 @@
--- A search for a name, one entry after another. Assumes nothing.
-use Rattle.std.proofs.Common.{◌≡◌, ℕ, ◌+◌, ◌<◌, ◌≤◌, Bool, true, false, cond, List, map, length, get_or, drop, Some, None, Decides, Option, sym, ap, ◌∙◌}
+-- A search for a name: the place that `position` finds is the number that the name has.
+use Rattle.std.proofs.Common.{◌≡◌, ℕ, ◌+◌, Bool, true, false, not, cond, ltb, List, [], ◌∷◌, map, length, Some, None, Option, arith, sym, ◌∙◌, ap}
+use Rattle.std.specs.List.{position_or_len, position}
 use Rattle.std.specs.Str.{bytes_eq}
-use Rattle.std.proofs.lemmas.List.{at_drop_more, at_drop_all}
-use Rattle.std.proofs.lemmas.Slice.Eq.{bytes_eq-Decides}
-use Rattle.std.proofs.lemmas.Bool.Decides.{same_from_decides}
+use Rattle.std.proofs.lemmas.Bool.Decides.{nat_tests}
 use Rattle.scheme.specs.Names.{index_from, index_of}
 
-module _ {X : Type 0} (f : X → List ℕ) (n : List ℕ) (xs : List X) (i : ℕ) where
-  abbrev left : ℕ → Option ℕ
-  left k = index_from k n (map f (drop k xs))
+-- the first of p + 1 places and more: it passes (t), or the search goes on
+at_head : (t : Bool) (i p l : ℕ) (later : Option ℕ) → later ≡ cond (ltb p l) (Some (i + 1 + p)) None
+    → cond t (Some i) later ≡ cond (ltb (cond (not t) (1 + p) 0) (1 + l)) (Some (i + cond (not t) (1 + p) 0)) None
+at_head true i p l later e = grind (arith, nat_tests)
+at_head false i p l later e = grind (arith, nat_tests)
 
-  module _ (x : X) (h : i < length xs) (read : x ≡ get_or xs i x) (r : Bool) (d : Decides r (f x ≡ n)) where
-    one : left i ≡ cond r (Some i) (left (i + 1))
-    one =
-        at_drop_more (λ l. index_from i n (map f l)) xs i x h
-        ∙ ap (λ y. cond (bytes_eq (f y) n) (Some i) (left (i + 1))) (sym read)
-        ∙ ap (λ t. cond t (Some i) (left (i + 1))) (same_from_decides _ _ (bytes_eq-Decides (f x) n) d)
+module _ {X : Type 0} (f : X → List ℕ) (n : List ℕ) where
+  abbrev place : List X → ℕ
+  place xs = position_or_len (λ x. bytes_eq (f x) n) xs
 
-    pub found_here : r ≡ true → left i ≡ index_of n (map f xs) → Some i ≡ index_of n (map f xs)
-    found_here t inv = sym (one ∙ ap (λ b. cond b (Some i) (left (i + 1))) t) ∙ inv
+  placed_from : (i : ℕ) (xs : List X) → index_from i n (map f xs) ≡ cond (ltb (place xs) (length xs)) (Some (i + place xs)) None
+  placed_from i [] = grind (arith, nat_tests)
+  placed_from i (x ∷ xs) = grind (arith, at_head (bytes_eq (f x) n) i (place xs) (length xs) _ (placed_from (i + 1) xs))
 
-    pub found_later : r ≡ false → left i ≡ index_of n (map f xs) → left (i + 1) ≡ index_of n (map f xs)
-    found_later t inv = sym (one ∙ ap (λ b. cond b (Some i) (left (i + 1))) t) ∙ inv
-
-  pub found_none : length xs ≤ i → left i ≡ index_of n (map f xs) → None ≡ index_of n (map f xs)
-  found_none h inv = sym (at_drop_all (λ l. index_from i n (map f l)) xs i h) ∙ inv
+  pub placed : (xs : List X) → position (λ x. bytes_eq (f x) n) xs ≡ index_of n (map f xs)
+  placed xs = sym (placed_from 0 xs ∙ ap (λ k. cond (ltb (place xs) (length xs)) (Some k) None) (omega arith))

@@ -1,13 +1,8 @@
--- The sizes of attributes that stand for others, and counts by the sizes alone.
-use Rattle.std.proofs.Common.{◌≡◌, ◌+◌, ◌*◌, ◌^◌, List, [], ◌∷◌, map, length, sym, refl, ap, ◌∙◌, mul_comm}
-use Rattle.std.proofs.lemmas.Simd.{map-map}
-use Rattle.scheme.specs.declared.entries.Attribute.{Attribute}
-use Rattle.scheme.specs.Models.{AttributeModel, SchemeModel, attribute_of}
+-- Counts by the sizes of the attributes alone.
+use Rattle.std.proofs.Common.{◌≡◌, ◌+◌, ◌*◌, ◌^◌, List, [], ◌∷◌, map, length, refl, ap, ◌∙◌, mul_comm}
+use Rattle.scheme.specs.Models.{AttributeModel, SchemeModel}
 use Rattle.scheme.specs.Counts.{combinations, object_states, state_count}
 use Rattle.scheme.specs.Sizes.{sizes_of, size_combinations, size_states}
-
-pub sizes_of_lem : (m : SchemeModel) (xs : List Attribute) → map attribute_of xs ≡ m.attributes → map (λ (a : Attribute). a.size) xs ≡ sizes_of m
-sizes_of_lem m xs e = sym (map-map (λ (a : AttributeModel). a.size) attribute_of xs) ∙ ap (map (λ (a : AttributeModel). a.size)) e
 
 -- the counts do not depend on the names, nor on the side from which the sizes are multiplied
 

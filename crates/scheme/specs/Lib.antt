@@ -1,6 +1,6 @@
 pub mod Names
 pub mod Models
-pub mod Tables
+pub mod Declarations
 pub mod Drafts
 pub mod Counts
 pub mod Schemes

@@ -1,6 +1,4 @@
 // A scheme that is being read: what the lines so far declare.
-ghost use Rattle.scheme.specs.Tables.{Fit};
-
 use crate::entries::{Attribute, Object, Query};
 use crate::names::Name;
 use crate::policies::Policies;
@@ -13,9 +11,8 @@ pub struct Draft {
     objects: Bounded<Object, 8>,
     policies: Policies,
     queries: Bounded<Query, 16>,
-    ghost fit: { Fit policies },
 }
 
-mod adds;
 mod checks;
+mod declares;
 mod reads;

@@ -1,7 +1,7 @@
-// The kinds of lines that declare a scheme. A text has them in this order, the `if` and then the `do`
-// lines of a policy below its own line.
+// The kinds of lines that declare a scheme, in the order in which a text has them: the `if` and then
+// the `do` lines of a policy stand below its own line.
 
-#[derive(Clone, Copy)]
+#[derive(Clone, Copy, PartialEq, Eq, PartialOrd, Ord)]
 pub enum Kind {
     Attr,
     Right,

@@ -1,14 +1,16 @@
 // The scheme record: what a scheme text declares, in bounded tables that allocate nothing.
 //
-// kind      the kinds of lines that declare a scheme
-// terms     subject and object, operands, predicates, actions
-// names     names, and the search for one among the entries of a kind
-// entries   attributes, objects, policies, queries
-// policies  the plain table of policies, which lends its last one to be filled
-// draft     a scheme that is being read, line by line
-// record    an accepted scheme, whose count of states is known and within its bound
+// kind         the kinds of lines that declare a scheme
+// terms        subject and object, operands, predicates, actions
+// names        names, and the search for one among the entries of a kind
+// entries      attributes, objects, policies, queries
+// declaration  what one line declares
+// policies     the table of policies, and what fills one of them
+// draft        a scheme that is being read, line by line
+// record       an accepted scheme, whose count of states is known and within its bound
 #![tactic(auto)]
 
+pub mod declaration;
 pub mod draft;
 pub mod entries;
 pub mod kind;

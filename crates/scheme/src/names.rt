@@ -20,10 +20,5 @@ pub fn find<T: Named>(entries: &[T], name: &[u8]) -> Option<usize>
     ensures value { result ≡ index_of name.now (map T.Named.named entries.now) }
     ensures within { IfSome result (λ i. i < length entries.now) }
 {
-    for (i, entry) in entries.iter().enumerate() {
-        if entry.name() == name {
-            return Some(i);
-        }
-    }
-    None
+    entries.iter().position(|entry| entry.name() == name)
 }

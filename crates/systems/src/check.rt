@@ -10,93 +10,83 @@ use super::numbers::Numbers;
 use super::refusals::TableRefusal;
 use protection::Permission;
 
-// The first refusal that applies, if one does.
-pub(crate) fn check_numbers(numbers: Numbers<'_>) -> Result<(), TableRefusal>
-    ensures { numbered table_refusal_values result ≡ fill_answer (table_of numbers.entry) }
-{
-    if are_counts_out(
-        numbers.states,
-        numbers.moves,
-        numbers.objects,
-        numbers.rights,
-    ) {
-        return Err(TableRefusal::Counts);
+impl Numbers<'_> {
+    // The first refusal that applies, if one does.
+    #[tactic(auto, unfolding(crate::specs::Tables::refusal))]
+    pub(crate) fn check(&self) -> Result<(), TableRefusal>
+        ensures { numbered table_refusal_values result ≡ fill_answer (table_of self.now) }
+    {
+        if self.are_counts_out() {
+            return Err(TableRefusal::Counts);
+        }
+        if self.are_lengths_out() {
+            return Err(TableRefusal::Lengths);
+        }
+        if self.start >= self.states {
+            return Err(TableRefusal::Start);
+        }
+        if let Some(mv) = self.first_label_out() {
+            return Err(TableRefusal::Label { mv });
+        }
+        if let Some(place) = self.first_entry_out() {
+            return Err(TableRefusal::Entry { place });
+        }
+        Ok(())
     }
-    if are_lengths_out(
-        numbers.states,
-        numbers.moves,
-        numbers.labels.len(),
-        numbers.entries.len(),
-    ) {
-        return Err(TableRefusal::Lengths);
-    }
-    if numbers.start >= numbers.states {
-        return Err(TableRefusal::Start);
-    }
-    if let Some(mv) = first_label_out(
-        numbers.objects,
-        numbers.rights,
-        numbers.moves,
-        numbers.labels,
-    ) {
-        return Err(TableRefusal::Label { mv });
-    }
-    if let Some(place) = first_entry_out(numbers.states, numbers.entries) {
-        return Err(TableRefusal::Entry { place });
-    }
-    Ok(())
-}
 
-fn are_counts_out(states: u32, moves: u32, objects: u32, rights: u32) -> bool
-    ensures { result ≡ counts_out states moves objects rights }
-{
-    states < 1 || states > 1048576 || moves > 4096 || objects > 255 || rights > 255
-}
+    fn are_counts_out(&self) -> bool
+        ensures { result ≡ counts_out self.now.states self.now.moves self.now.objects self.now.rights }
+    {
+        self.states < 1
+            || self.states > 1048576
+            || self.moves > 4096
+            || self.objects > 255
+            || self.rights > 255
+    }
 
-// The lengths are compared in 64 bits, since states times moves may need 33.
-fn are_lengths_out(states: u32, moves: u32, labels: usize, entries: usize) -> bool
-    requires few_states { states ≤ 1048576 }
-    requires few_moves { moves ≤ 4096 }
-    ensures { result ≡ lengths_out states moves labels entries }
-{
-    labels != 3 * moves as usize || entries != states as usize * moves as usize
-}
+    // The lengths are compared in 64 bits, since states times moves may need 33.
+    fn are_lengths_out(&self) -> bool
+        requires few_states { self.now.states ≤ 1048576 }
+        requires few_moves { self.now.moves ≤ 4096 }
+        ensures { result ≡ lengths_out self.now.states self.now.moves (length self.now.labels.now) (length self.now.entries.now) }
+    {
+        self.labels.len() != 3 * self.moves as usize
+            || self.entries.len() != self.states as usize * self.moves as usize
+    }
 
-// The first move whose label is out of the counts.
-fn first_label_out(objects: u32, rights: u32, moves: u32, labels: &[u32]) -> Option<u32>
-    requires { length labels.now ≡ 3 * moves }
-    ensures { result ≡ lowest (label_out objects rights labels.now) moves }
-{
-    for mv in 0..moves {
-        if !label_at(labels, mv).is_within(objects, rights) {
-            return Some(mv);
+    // The first move whose label is out of the counts.
+    fn first_label_out(&self) -> Option<u32>
+        requires { length self.now.labels.now ≡ 3 * self.now.moves }
+        ensures { result ≡ lowest (label_out self.now.objects self.now.rights self.now.labels.now) self.now.moves }
+    {
+        (0..self.moves).find(
+            |mv|
+                requires { 3 * mv.now + 2 < length self.now.labels.now }
+            { !self.label_at(*mv).is_within(self.objects, self.rights) },
+        )
+    }
+
+    // The label of a move, for which the list has three numbers.
+    pub(crate) fn label_at(&self, mv: u32) -> Permission
+        requires { 3 * mv + 2 < length self.now.labels.now }
+        ensures { result ≡ permission_at self.now.labels.now mv }
+    {
+        let first = 3 * mv as usize;
+        Permission {
+            subject: self.labels[first],
+            object: self.labels[first + 1],
+            right: self.labels[first + 2],
         }
     }
-    None
-}
 
-// The label of a move, for which the list has three numbers.
-pub(crate) fn label_at(labels: &[u32], mv: u32) -> Permission
-    requires { 3 * mv + 2 < length labels.now }
-    ensures { result ≡ permission_at labels.now mv }
-{
-    let first = 3 * mv as usize;
-    Permission {
-        subject: labels[first],
-        object: labels[first + 1],
-        right: labels[first + 2],
+    // The place of the first entry that is above the count of states.
+    fn first_entry_out(&self) -> Option<u32>
+        requires { length self.now.entries.now ≤ 2 ^ 32 }
+        ensures { result ≡ lowest (entry_out self.now.states self.now.entries.now) (length self.now.entries.now) }
+    {
+        self.entries
+            .iter()
+            .position(|entry| *entry > self.states)
+            .map(|place| place as u32)
     }
-}
-
-// The place of the first entry that is above the count of states.
-fn first_entry_out(states: u32, entries: &[u32]) -> Option<u32>
-    requires { length entries.now ≤ 2 ^ 32 }
-    ensures { result ≡ lowest (entry_out states entries.now) (length entries.now) }
-{
-    for (place, entry) in entries.iter().enumerate() {
-        if *entry > states {
-            return Some(place as u32);
-        }
-    }
-    None
 }

@@ -9,7 +9,7 @@ ghost use Rattle.systems.specs.LockLaws.{locked_bounds};
 use super::lock::LockList;
 use super::refusals::LockRefusal;
 use bounded::Bounded;
-use protection::{Permission, System};
+use protection::{Permission, System, in_counts};
 use walk::Walk;
 
 impl<S: System> LockList<S> {
@@ -42,15 +42,13 @@ impl<S: System> LockList<S> {
         ensures after { locks_of self.new ≡ locks_after (S.System.labels self.old.system) (locks_of self.old) p }
         ensures system { self.new.system ≡ self.old.system }
     {
-        if !p.is_within(self.system.objects(), self.system.rights()) {
+        if !in_counts(&self.system, p) {
             return Err(LockRefusal::OutOfCounts);
         }
         if has_lock(self.listed(), p) {
             return Ok(self.listed().len() as u32);
         }
-        if !self.locks.push(p) {
-            return Err(LockRefusal::Full);
-        }
+        self.locks.push(p).map_err(|_| LockRefusal::Full)?;
         Ok(self.listed().len() as u32)
     }
 }
@@ -102,19 +100,11 @@ impl<S: System> System for LockList<S> {
 fn is_label_locked(locks: &[Permission], label: Option<Permission>) -> bool
     ensures { result ≡ is_locked locks.now label }
 {
-    match label {
-        Some(p) => has_lock(locks, p),
-        None => false,
-    }
+    label.is_some_and(|p| has_lock(locks, p))
 }
 
 fn has_lock(locks: &[Permission], p: Permission) -> bool
     ensures { result ≡ is_listed locks.now p }
 {
-    for lock in locks {
-        if *lock == p {
-            return true;
-        }
-    }
-    false
+    locks.contains(&p)
 }

@@ -1,4 +1,5 @@
-// The numbers of a table system, lent for reading.
+// The numbers of a table system, lent for reading: flat lists, by a rule of the project, so that
+// a table is given as numbers alone.
 
 #[derive(Clone, Copy)]
 pub struct Numbers<'a> {

@@ -1,6 +1,7 @@
 // Why a table's numbers are refused, and why a lock is.
-ghost use Rattle.std.specs.Prelude.{◌≡◌};
 ghost use Rattle.systems.specs.Refusals.{table_refusal_values, lock_refusal_values};
+
+use protection::Numbered;
 
 #[derive(Clone, Copy)]
 pub enum TableRefusal {
@@ -16,10 +17,10 @@ pub enum TableRefusal {
     Entry { place: u32 },
 }
 
-impl TableRefusal {
-    pub fn number(self) -> u32
-        ensures { result ≡ (table_refusal_values self).number }
-    {
+impl Numbered for TableRefusal {
+    ghost values = { table_refusal_values };
+
+    fn number(self) -> u32 {
         match self {
             TableRefusal::Counts => 40,
             TableRefusal::Lengths => 41,
@@ -38,10 +39,10 @@ pub enum LockRefusal {
     Full,
 }
 
-impl LockRefusal {
-    pub fn number(self) -> u32
-        ensures { result ≡ (lock_refusal_values self).number }
-    {
+impl Numbered for LockRefusal {
+    ghost values = { lock_refusal_values };
+
+    fn number(self) -> u32 {
         match self {
             LockRefusal::OutOfCounts => 51,
             LockRefusal::Full => 50,

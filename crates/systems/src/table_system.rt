@@ -6,7 +6,6 @@ ghost use Rattle.systems.specs.Tables.{bare, next_of, table_walk, table_labels, 
 ghost use Rattle.systems.specs.TableNumbers.{table_of};
 ghost use Rattle.systems.specs.TableLaws.{table_bounds, table_counts};
 
-use super::check::{check_numbers, label_at};
 use super::numbers::Numbers;
 use super::refusals::TableRefusal;
 use super::table::TableSystem;
@@ -36,7 +35,7 @@ impl<'a> TableSystem<'a> {
         ensures answer { numbered table_refusal_values result ≡ fill_answer (table_of numbers.entry) }
         ensures after { table_of self.new.numbers ≡ filled (table_of self.old.numbers) (table_of numbers.entry) }
     {
-        check_numbers(numbers)?;
+        numbers.check()?;
         self.numbers = numbers;
         Ok(())
     }
@@ -64,7 +63,7 @@ impl<'a> Walk for TableSystem<'a> {
             return None;
         }
         let place = state as usize * self.numbers.moves as usize + mv as usize;
-        next_state(self.numbers.entries[place])
+        next_state(*self.numbers.entries.get(place)?)
     }
 }
 
@@ -92,6 +91,6 @@ impl<'a> System for TableSystem<'a> {
         if mv >= self.numbers.moves {
             return None;
         }
-        Some(label_at(self.numbers.labels, mv))
+        Some(self.numbers.label_at(mv))
     }
 }

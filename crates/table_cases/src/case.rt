@@ -5,24 +5,22 @@ use anyhow::anyhow;
 use protection::Permission;
 use std::alloc::Global;
 
-// What is asked: an analysis with tables of given lengths, or a call of a monitor.
+// An analysis, with tables of these lengths.
+#[derive(Clone, Copy)]
+pub(crate) struct Query {
+    pub(crate) q: Permission,
+    pub(crate) marks: u32,
+    pub(crate) found: u32,
+    pub(crate) witness: u32,
+}
+
+// What is asked: an analysis, or a call of a monitor.
 #[derive(Clone, Copy)]
 pub(crate) enum Question {
-    Query {
-        q: Permission,
-        marks: u32,
-        found: u32,
-        witness: u32,
-    },
-    Enforce {
-        mv: u32,
-    },
-    Request {
-        p: Permission,
-    },
-    May {
-        p: Permission,
-    },
+    Query(Query),
+    Enforce { mv: u32 },
+    Request { p: Permission },
+    May { p: Permission },
     State,
     Restart,
 }
@@ -41,11 +39,7 @@ pub(crate) struct Case {
 pub(crate) fn number_at(numbers: &[u32], place: usize) -> u32
     ensures { result ≡ slice_index numbers.now place }
 {
-    if place < numbers.len() {
-        numbers[place]
-    } else {
-        0
-    }
+    numbers.get(place).copied().unwrap_or(0)
 }
 
 // The permission that begins a line's numbers.
@@ -62,32 +56,22 @@ fn permission(numbers: &[u32]) -> Permission
 // What a line asks, if its first word is that of a question.
 fn asked(word: &str, numbers: &[u32]) -> Option<Question> {
     let p = permission(numbers);
-    if word == "query" {
-        return Some(Question::Query {
+    match word {
+        "query" => Some(Question::Query(Query {
             q: p,
             marks: number_at(numbers, 3),
             found: number_at(numbers, 4),
             witness: number_at(numbers, 5),
-        });
-    }
-    if word == "enforce" {
-        return Some(Question::Enforce {
+        })),
+        "enforce" => Some(Question::Enforce {
             mv: number_at(numbers, 0),
-        });
+        }),
+        "request" => Some(Question::Request { p }),
+        "may" => Some(Question::May { p }),
+        "state" => Some(Question::State),
+        "restart" => Some(Question::Restart),
+        _ => None,
     }
-    if word == "request" {
-        return Some(Question::Request { p });
-    }
-    if word == "may" {
-        return Some(Question::May { p });
-    }
-    if word == "state" {
-        return Some(Question::State);
-    }
-    if word == "restart" {
-        return Some(Question::Restart);
-    }
-    None
 }
 
 impl Case {
@@ -104,20 +88,18 @@ impl Case {
 
     // Takes a line, by its first word and its numbers.
     pub(crate) fn take(&mut self, word: &str, numbers: Vec<u32>) -> anyhow::Result<()> {
-        if let Some(question) = asked(word, numbers.as_slice()) {
-            self.questions.push(question)?;
-        } else if word == "inner" {
-            self.inner.push(permission(numbers.as_slice()))?;
-        } else if word == "outer" {
-            self.outer.push(permission(numbers.as_slice()))?;
-        } else if word == "table" {
-            self.counts = numbers;
-        } else if word == "labels" {
-            self.labels = numbers;
-        } else if word == "entries" {
-            self.entries = numbers;
-        } else {
-            return Err(anyhow!("unknown line"));
+        match word {
+            "table" => self.counts = numbers,
+            "labels" => self.labels = numbers,
+            "entries" => self.entries = numbers,
+            "inner" => self.inner.push(permission(numbers.as_slice()))?,
+            "outer" => self.outer.push(permission(numbers.as_slice()))?,
+            _ => {
+                let Some(question) = asked(word, numbers.as_slice()) else {
+                    return Err(anyhow!("unknown line"));
+                };
+                self.questions.push(question)?;
+            }
         }
         Ok(())
     }

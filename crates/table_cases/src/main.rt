@@ -29,14 +29,10 @@ fn run_all(rt: &HostRuntime) -> anyhow::Result<()> {
 
 // A line is a word and then numbers.
 fn take_line(rt: &HostRuntime, case: &mut Case, line: &str) -> anyhow::Result<()> {
-    let mut word = "";
-    let mut numbers = Vec::new(rt.alloc());
-    for part in line.split(' ') {
-        if word.is_empty() {
-            word = part;
-        } else {
-            numbers.push(part.parse::<u32>()?)?;
-        }
-    }
+    let mut parts = line.trim_start_matches(' ').split(' ');
+    let word = parts.next().unwrap_or("");
+    let numbers = parts
+        .map(|part| -> anyhow::Result<u32> { Ok(part.parse::<u32>()?) })
+        .try_collect(rt.alloc())?;
     case.take(word, numbers)
 }

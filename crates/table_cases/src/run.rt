@@ -1,9 +1,9 @@
 // Runs a case: fills the table, locks, and asks.
-use super::case::{Case, Question, number_at};
+use super::case::{Case, Query, Question, number_at};
 use super::show::*;
 use monitor::{Monitor, confirm};
 use protection::{Permission, System, Verdict};
-use std::alloc::{AllocError, Global};
+use std::io;
 use systems::{LockList, Numbers, TableSystem};
 use walk::Found;
 
@@ -22,29 +22,38 @@ pub(crate) fn run_case(rt: &HostRuntime, case: &Case) -> anyhow::Result<()> {
     });
     show_filled(rt, answer)?;
     let mut inner = LockList::new(table);
-    for p in case.inner.as_slice() {
-        show_locked(rt, inner.lock(*p))?;
-    }
+    lock_all(rt, &mut inner, case.inner.as_slice())?;
     let mut outer = LockList::new(inner);
-    for p in case.outer.as_slice() {
-        show_locked(rt, outer.lock(*p))?;
-    }
+    lock_all(rt, &mut outer, case.outer.as_slice())?;
     ask_all(rt, &outer, case.questions.as_slice())
+}
+
+fn lock_all<S: System>(
+    rt: &HostRuntime,
+    list: &mut LockList<S>,
+    locks: &[Permission],
+) -> io::Result<()> {
+    for p in locks {
+        show(rt, list.lock(*p), |count| println!(rt; "locked {count}"))?;
+    }
+    Ok(())
 }
 
 fn ask_all<S: System>(rt: &HostRuntime, system: &S, questions: &[Question]) -> anyhow::Result<()> {
     let mut monitor = Monitor::new(system);
     for question in questions {
         match *question {
-            Question::Query {
-                q,
-                marks,
-                found,
-                witness,
-            } => ask_query(rt, system, q, marks, found, witness)?,
-            Question::Enforce { mv } => show_granted(rt, monitor.enforce(mv))?,
-            Question::Request { p } => show_granted(rt, monitor.request(p))?,
-            Question::May { p } => show_may(rt, monitor.may(p))?,
+            Question::Query(query) => ask_query(rt, system, query)?,
+            Question::Enforce { mv } => {
+                show(rt, monitor.enforce(mv), |mv| println!(rt; "granted {mv}"))?
+            }
+            Question::Request { p } => {
+                show(rt, monitor.request(p), |mv| println!(rt; "granted {mv}"))?
+            }
+            Question::May { p } => show(rt, monitor.may(p), |yes| match yes {
+                true => println!(rt; "yes"),
+                false => println!(rt; "no"),
+            })?,
             Question::State => {
                 let state = monitor.state();
                 println!(rt; "state {state}")?;
@@ -55,65 +64,41 @@ fn ask_all<S: System>(rt: &HostRuntime, system: &S, questions: &[Question]) -> a
     Ok(())
 }
 
-// Analyses with tables of these lengths, shows all that they hold, and where a witness leads.
-fn ask_query<S: System>(
-    rt: &HostRuntime,
-    system: &S,
-    q: Permission,
-    marks: u32,
-    found: u32,
-    witness: u32,
-) -> anyhow::Result<()> {
+// Analyses with tables of these lengths, whose numbers tell each entry from every other; shows
+// all that they hold, and where a witness leads.
+fn ask_query<S: System>(rt: &HostRuntime, system: &S, query: Query) -> anyhow::Result<()> {
     let heap = rt.alloc();
-    let mut marks = pattern(heap, marks, 1000)?;
-    let mut found = pattern_list(heap, found)?;
-    let mut witness = pattern(heap, witness, 2000)?;
+    let mut marks: Vec<u32> = (0..query.marks)
+        .map(|i| i.wrapping_add(1000))
+        .collect(heap)?;
+    let mut found: Vec<Found> = (0..query.found)
+        .map(|i| Found {
+            state: i.wrapping_add(3000),
+            parent: i.wrapping_add(4000),
+            mv: i.wrapping_add(5000),
+        })
+        .collect(heap)?;
+    let mut witness: Vec<u32> = (0..query.witness)
+        .map(|i| i.wrapping_add(2000))
+        .collect(heap)?;
     let answer = confirm(
         system,
-        q,
+        query.q,
         marks.as_mut_slice(),
         found.as_mut_slice(),
         witness.as_mut_slice(),
     );
-    show_verdict(rt, answer)?;
+    show(rt, answer, |verdict| show_verdict(rt, verdict))?;
     show_numbers(rt, "marks", marks.as_slice())?;
     show_list(rt, found.as_slice())?;
     show_numbers(rt, "witness", witness.as_slice())?;
-    if let Ok(
-        Verdict::Leak {
-            found: _,
-            tried: _,
-            length,
-        },
-    ) = answer
-    {
-        let moves = witness.as_slice();
-        if length as usize <= moves.len() {
+    if let Ok(Verdict::Leak { length, .. }) = answer {
+        if let Some(moves) = witness.as_slice().get(..length as usize) {
             let mut monitor = Monitor::new(system);
-            let replayed = monitor.replay(&moves[0..length as usize]);
-            show_replayed(rt, replayed, monitor.state())?;
+            let replayed = monitor.replay(moves);
+            let state = monitor.state();
+            show(rt, replayed, |_| println!(rt; "replayed to {state}"))?;
         }
     }
     Ok(())
-}
-
-// Numbers that tell each entry from every other.
-fn pattern(heap: Global, length: u32, base: u32) -> Result<Vec<u32>, AllocError> {
-    let mut numbers = Vec::new(heap);
-    for i in 0..length {
-        numbers.push(i.wrapping_add(base))?;
-    }
-    Ok(numbers)
-}
-
-fn pattern_list(heap: Global, length: u32) -> Result<Vec<Found>, AllocError> {
-    let mut list = Vec::new(heap);
-    for i in 0..length {
-        list.push(Found {
-            state: i.wrapping_add(3000),
-            parent: i.wrapping_add(4000),
-            mv: i.wrapping_add(5000),
-        })?;
-    }
-    Ok(list)
 }

@@ -1,82 +1,45 @@
 // What is printed of answers and tables.
-use monitor::Denial;
-use protection::{Refusal, Verdict};
+use protection::{Numbered, Verdict};
 use std::io;
-use systems::{LockRefusal, TableRefusal};
+use systems::TableRefusal;
 use walk::Found;
 
-pub(crate) fn show_filled(rt: &HostRuntime, answer: Result<(), TableRefusal>) -> io::Result<()> {
-    match answer {
-        Ok(()) => println!(rt; "filled"),
-        Err(refusal) => show_table_refusal(rt, refusal),
-    }
-}
-
-fn show_table_refusal(rt: &HostRuntime, refusal: TableRefusal) -> io::Result<()> {
-    let number = refusal.number();
-    match refusal {
-        TableRefusal::Label { mv } => println!(rt; "refused {number} {mv}"),
-        TableRefusal::Entry { place } => println!(rt; "refused {number} {place}"),
-        _ => println!(rt; "refused {number}"),
-    }
-}
-
-pub(crate) fn show_locked(rt: &HostRuntime, answer: Result<u32, LockRefusal>) -> io::Result<()> {
-    match answer {
-        Ok(count) => println!(rt; "locked {count}"),
-        Err(refusal) => {
-            let number = refusal.number();
-            println!(rt; "refused {number}")
-        }
-    }
-}
-
-pub(crate) fn show_verdict(rt: &HostRuntime, answer: Result<Verdict, Refusal>) -> io::Result<()> {
-    match answer {
-        Ok(
-            Verdict::Leak {
-                found,
-                tried,
-                length,
-            },
-        ) => println!(rt; "leak {found} {tried} {length}"),
-        Ok(Verdict::Never { found, tried }) => println!(rt; "never {found} {tried}"),
-        Err(refusal) => {
-            let number = refusal.number();
-            println!(rt; "refused {number}")
-        }
-    }
-}
-
-pub(crate) fn show_granted(rt: &HostRuntime, answer: Result<u32, Denial>) -> io::Result<()> {
-    match answer {
-        Ok(mv) => println!(rt; "granted {mv}"),
-        Err(denial) => show_denial(rt, denial),
-    }
-}
-
-pub(crate) fn show_may(rt: &HostRuntime, answer: Result<bool, Denial>) -> io::Result<()> {
-    match answer {
-        Ok(true) => println!(rt; "yes"),
-        Ok(false) => println!(rt; "no"),
-        Err(denial) => show_denial(rt, denial),
-    }
-}
-
-pub(crate) fn show_replayed(
+// Shows an answer as `tell` does, or the number of its refusal.
+pub(crate) fn show<T, E: Numbered, F: FnOnce(T) -> io::Result<()>>(
     rt: &HostRuntime,
-    answer: Result<(), Denial>,
-    state: u32,
-) -> io::Result<()> {
+    answer: Result<T, E>,
+    tell: F,
+) -> io::Result<()>
+    requires { F.IsAlwaysCallable tell }
+{
     match answer {
-        Ok(()) => println!(rt; "replayed to {state}"),
-        Err(denial) => show_denial(rt, denial),
+        Ok(value) => tell(value),
+        Err(refusal) => println!(rt; "refused {}", refusal.number()),
     }
 }
 
-fn show_denial(rt: &HostRuntime, denial: Denial) -> io::Result<()> {
-    let number = denial.number();
-    println!(rt; "refused {number}")
+// A refusal of a table may carry a move or a place.
+pub(crate) fn show_filled(rt: &HostRuntime, answer: Result<(), TableRefusal>) -> io::Result<()> {
+    if let Err(refusal) = answer {
+        let number = refusal.number();
+        match refusal {
+            TableRefusal::Label { mv } => return println!(rt; "refused {number} {mv}"),
+            TableRefusal::Entry { place } => return println!(rt; "refused {number} {place}"),
+            _ => (),
+        }
+    }
+    show(rt, answer, |_| println!(rt; "filled"))
+}
+
+pub(crate) fn show_verdict(rt: &HostRuntime, verdict: Verdict) -> io::Result<()> {
+    match verdict {
+        Verdict::Leak {
+            found,
+            tried,
+            length,
+        } => println!(rt; "leak {found} {tried} {length}"),
+        Verdict::Never { found, tried } => println!(rt; "never {found} {tried}"),
+    }
 }
 
 pub(crate) fn show_numbers(rt: &HostRuntime, name: &str, numbers: &[u32]) -> io::Result<()> {
@@ -90,10 +53,7 @@ pub(crate) fn show_numbers(rt: &HostRuntime, name: &str, numbers: &[u32]) -> io:
 pub(crate) fn show_list(rt: &HostRuntime, list: &[Found]) -> io::Result<()> {
     print!(rt; "found")?;
     for entry in list {
-        let state = entry.state;
-        let parent = entry.parent;
-        let mv = entry.mv;
-        print!(rt; " {state}/{parent}/{mv}")?;
+        print!(rt; " {}/{}/{}", entry.state, entry.parent, entry.mv)?;
     }
     println!(rt; "")
 }

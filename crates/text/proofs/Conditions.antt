@@ -1,6 +1,7 @@
 -- The condition of each row of the table against the check that the definition of reading makes.
 use Rattle.std.proofs.Common.{◌≡◌, ℕ, ◌+◌, ◌<◌, ◌≤◌, Bool, true, false, cond, ◌||◌, eqb, List, [], ◌∷◌, length, get_or, Some, None, Ok, Err, Option, Result, sym, refl, ap, ◌∙◌, subst, inl, inr, ⊎_elim, arith}
-use Rattle.std.proofs.lemmas.Bool.{leb-false, lt-leb, eqb-false, ne_eqb, or_parts, or_from}
+use Rattle.std.proofs.lemmas.Option.{none-some}
+use Rattle.std.proofs.lemmas.Bool.{both_ways, leb-false, lt-leb, eqb-false, ne_eqb, or_parts, or_from}
 use Rattle.scheme.specs.declared.kind.Kind.{Kind}
 use Rattle.scheme.specs.Models.{room_for}
 use Rattle.words.specs.declared.fault.WordFault.{WordFault}
@@ -98,15 +99,14 @@ module _ (p : Progress) (l : PlainLine) where
   pub kinds_clear : (k : Kind) → Opens l k → in_order p.last k ≡ true → Clear p l kinds
   kinds_clear k opened ordered i g a =
       ⊎_elim
-      (λ (none : kind_in (word_at l 0).bytes ≡ None). let some = opened.1 in let z : ◌≡◌ {A = ℕ} 0 1 = cc in omega arith)
+      (λ (none : kind_in (word_at l 0).bytes ≡ None). none-some k (sym none ∙ opened.1))
       (λ (other : (o : Kind) × ((kind_in (word_at l 0).bytes ≡ Some o) × (in_order p.last o ≡ false))).
       let some = opened.1 in
       let is = other.1.0 in
       let not_ordered = other.1.1 in
       let same : other.0 ≡ k = cc in
       let no : in_order p.last k ≡ false = ap (in_order p.last) (sym same) ∙ not_ordered in
-      let z : true ≡ false = sym ordered ∙ no in
-      let z' : ◌≡◌ {A = ℕ} 0 1 = cc in omega arith)
+      both_ways (in_order p.last k) no ordered)
       a.2
 
   pub kinds_first : (e : LineFault) → line_kind p.last ws ≡ Err e → Leftmost p l kinds (OfLine e)
@@ -117,7 +117,7 @@ module _ (p : Progress) (l : PlainLine) where
 
   -- the other rows speak of a line of a known kind
   module _ (k : Kind) (opened : Opens l k) where
-    only : (o : Kind) → Opens l o → o ≡ k
+    pub only : (o : Kind) → Opens l o → o ≡ k
     only o is = let a = opened.1 in let b = is.1 in cc
 
     pub counts_clear : right_count k (length p.scheme.attributes) ws ≡ Ok tt → Clear p l counts

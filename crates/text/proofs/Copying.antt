@@ -1,8 +1,9 @@
 -- The copy of a name, and the values of an object line one after another.
-use Rattle.std.proofs.Common.{◌≡◌, ℕ, ◌+◌, ◌<◌, ◌≤◌, Bool, true, cond, ltb, leb, List, [], ◌∷◌, ◌++◌, length, drop, Some, None, Option, unwrap_or, sym, ap, ◌∙◌, arith}
+use Rattle.std.proofs.Common.{◌≡◌, ℕ, ◌+◌, ◌<◌, Bool, cond, ltb, leb, List, [], ◌∷◌, ◌++◌, length, drop, Some, None, Option, unwrap_or, sym, ap, ◌∙◌, arith}
 use Rattle.std.specs.Option.{option_map}
-use Rattle.std.proofs.lemmas.List.{at_drop_more, at_drop_all, append_assoc, append-nil, length_push}
-use Rattle.std.proofs.lemmas.Bool.{le-leb, lt-ltb}
+use Rattle.std.proofs.lemmas.List.{at_drop_more, append_assoc, length_push}
+use Rattle.std.proofs.lemmas.Bool.{le-leb}
+use Rattle.bounded.proofs.Pushes.{pushed}
 use Rattle.scheme.specs.Models.{AttributeModel}
 use Rattle.words.specs.Positions.{PlainWord, word_in}
 use Rattle.words.specs.Tokens.{name, form_of}
@@ -20,9 +21,8 @@ module _ {X : Type 0} (items : X → List ℕ) where
 -- the values so far, and those of the attributes that are left
 module _ (al : List AttributeModel) (ws : List PlainWord) (i : ℕ) (vs : List (Option ℕ)) (inv : vs ++ values_at (i + 2) (drop i al) ws ≡ values_at 2 al ws) where
   pub values_more : (new : List (Option ℕ)) (v : Option ℕ) (r : Bool) → i < length al → i < 4 → length vs ≡ i → v ≡ value_in (word_in ws (i + 2)) → r ≡ ltb (length vs) 4 → new ≡ cond r (vs ++ v ∷ []) vs → (new ++ values_at (i + 1 + 2) (drop (i + 1) al) ws ≡ values_at 2 al ws) × (length new ≡ i + 1)
-  values_more new v r h few long is room pushed =
-      let free : r ≡ true = room ∙ lt-ltb _ _ (omega arith) in
-      let grown : new ≡ vs ++ v ∷ [] = pushed ∙ ap (λ t. cond t (vs ++ v ∷ []) vs) free in
+  values_more new v r h few long is room left =
+      let grown : new ≡ vs ++ v ∷ [] = pushed vs new v 4 r (omega arith) room left in
       let at : i + 1 + 2 ≡ i + 2 + 1 = omega arith in (
         ap (λ l. l ++ values_at (i + 1 + 2) (drop (i + 1) al) ws) grown
             ∙ append_assoc vs (v ∷ []) (values_at (i + 1 + 2) (drop (i + 1) al) ws)
@@ -32,6 +32,3 @@ module _ (al : List AttributeModel) (ws : List PlainWord) (i : ℕ) (vs : List (
             ∙ inv,
         ap length grown ∙ length_push vs v ∙ ap (λ n. n + 1) long,
       )
-
-  pub values_all : length al ≤ i → vs ≡ values_at 2 al ws
-  values_all h = sym (append-nil vs) ∙ ap (λ l. vs ++ l) (sym (at_drop_all (λ l. values_at (i + 2) l ws) al i h)) ∙ inv

@@ -1,6 +1,7 @@
 -- The row of names and values against the check of the words by their roles.
-use Rattle.std.proofs.Common.{◌≡◌, ℕ, ◌-◌, ◌<◌, Bool, true, false, cond, ◌&&◌, eqb, leb, ◌⊎◌, List, length, get_or, is_some, Ok, Err, refl, ap, ◌∙◌, inl, inr, ⊎_elim, arith}
-use Rattle.std.proofs.lemmas.Bool.{leb-false, lt-leb, ltb-false, le-ltb, eqb-false, ne_eqb, and_cases, and_left, and_right}
+use Rattle.std.proofs.Common.{◌≡◌, ℕ, ◌-◌, ◌<◌, Bool, true, false, cond, ◌&&◌, eqb, leb, ◌⊎◌, List, length, get_or, is_some, Ok, Err, sym, refl, ap, ◌∙◌, inl, inr, arith}
+use Rattle.std.proofs.lemmas.Bool.Decides.{nat_tests}
+use Rattle.std.proofs.lemmas.Bool.{ltb-false, le-ltb, eqb-false, ne_eqb}
 use Rattle.scheme.specs.declared.kind.Kind.{Kind}
 use Rattle.scheme.specs.Names.{index_of}
 use Rattle.scheme.specs.Models.{SchemeModel, attribute_names, names_of}
@@ -16,7 +17,7 @@ use Rattle.text.specs.Naming.{size_at, term_form_check, number_check, role_check
 use Rattle.text.specs.Reading.{Progress}
 use Rattle.text.specs.Refusing.{names, Opens, Unknown, Unattributed, Oversized, Overvalued, Misnamed, Applies}
 use Rattle.text.proofs.Checked.{ok_err, cond_refused, cond_refuses, cond_stopped, cond_stops, row_clear, row_first}
-use Rattle.text.proofs.Conditions.{Clear, Leftmost}
+use Rattle.text.proofs.Conditions.{Clear, Leftmost, only}
 
 -- a number that is refused is not allowed
 number_refused : (allowed : ℕ → Bool) (w : PlainWord) (f : SchemeFault) (form : Form) → number_check allowed w form ≡ Err f → (n : ℕ) × ((form ≡ number n) × (allowed n ≡ false) × (f ≡ Range (spot_of w)))
@@ -41,7 +42,7 @@ module _ (m : SchemeModel) (k : Kind) (ws : List PlainWord) (i : ℕ) (f : Schem
   term_refused other is r o at same h = absurd (ok_err tt f h)
 
   out_of_sizes : (n : ℕ) → (leb 1 n && leb n 250) ≡ false → (n < 1) ⊎ (250 < n)
-  out_of_sizes n h = ⊎_elim (λ low. inl (leb-false 1 n low)) (λ high. inr (leb-false n 250 high)) (and_cases (leb 1 n) (leb n 250) h)
+  out_of_sizes n h = grind (arith, nat_tests)
 
   -- a role that refuses the word shows what is wrong
   misnamed : (r : Role) → role_at k ws i ≡ r → role_check m k i w r ≡ Err f → Misnamed m k ws i f
@@ -58,7 +59,7 @@ module _ (m : SchemeModel) (k : Kind) (ws : List PlainWord) (i : ℕ) (f : Schem
   checked r at h = ap (role_check m k i w) at ∙ h
 
   size_refused : (n : ℕ) → (n < 1) ⊎ (250 < n) → (leb 1 n && leb n 250) ≡ false
-  size_refused n h = ⊎_elim (λ (low : n < 1). and_left (leb 1 n) (leb n 250) (lt-leb 1 n low)) (λ (high : 250 < n). and_right (leb 1 n) (leb n 250) (lt-leb n 250 high)) h
+  size_refused n h = grind (arith, nat_tests)
 
   -- and what is wrong is refused
   undefined : Unknown m k ws i ⊎ Unattributed m k ws i → f ≡ Undefined (spot_of w) → role_check m k i w (role_at k ws i) ≡ Err f
@@ -88,12 +89,9 @@ module _ (p : Progress) (l : PlainLine) (k : Kind) (opened : Opens l k) where
   abbrev words : List PlainWord
   words = words_of l
 
-  only : (o : Kind) → Opens l o → k ≡ o
-  only o is = let a = opened.1 in let b = is.1 in cc
-
   row_refuses : (i : ℕ) (f : SchemeFault) → Applies p l names i f → (i < length words) × (name_check p.scheme k words i (get_or words i no_word) ≡ Err f)
   row_refuses i f a =
-      (a.1, ap (λ x. name_check p.scheme x words i (word_in words i)) (only a.2.0 a.2.1.0) ∙ name_refuses p.scheme a.2.0 words i f a.0 a.2.1.1)
+      (a.1, ap (λ x. name_check p.scheme x words i (word_in words i)) (sym (only p l k opened a.2.0 a.2.1.0)) ∙ name_refuses p.scheme a.2.0 words i f a.0 a.2.1.1)
 
   row_means : (i : ℕ) (f : SchemeFault) → i < length words → name_check p.scheme k words i (get_or words i no_word) ≡ Err f → Applies p l names i f
   row_means i f h refused = let told = name_refused p.scheme k words i f refused in (told.0, h, (k, (opened, told.1)))

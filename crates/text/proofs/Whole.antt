@@ -1,6 +1,7 @@
 -- A whole text is judged as the table of refusals says, and in no other way.
-use Rattle.std.proofs.Common.{◌≡◌, ℕ, ◌+◌, ◌≤◌, Bool, true, false, cond, ◌&&◌, leb, ◌⊎◌, List, [], ◌∷◌, ◌++◌, length, Ok, Err, Result, sym, refl, ap, ◌∙◌, subst, inl, inr, ⊎_elim, add-zero, arith}
-use Rattle.std.proofs.lemmas.Bool.{le-leb, lt-leb, leb-true, leb-false, and_cases, and_left, and_right}
+use Rattle.std.proofs.Common.{◌≡◌, ℕ, ◌+◌, ◌≤◌, Bool, true, false, cond, leb, ◌⊎◌, List, [], ◌∷◌, ◌++◌, length, Ok, Err, Result, sym, refl, ap, ◌∙◌, subst, inl, inr, add-zero, arith}
+use Rattle.std.proofs.lemmas.Bool.Decides.{nat_tests}
+use Rattle.std.proofs.lemmas.Bool.{both_ways, le-leb, lt-leb, leb-true, leb-false}
 use Rattle.scheme.specs.Models.{SchemeModel}
 use Rattle.scheme.specs.Counts.{state_count}
 use Rattle.words.specs.declared.fault.WordFault.TheVariants.{LongText}
@@ -17,23 +18,10 @@ use Rattle.text.proofs.Firsts.{line_refused, line_passes, line_first, line_fault
 -- the end of a text
 
 incomplete : (m : SchemeModel) → complete m ≡ false → Incomplete m
-incomplete m h =
-    ⊎_elim
-    (λ none. let low = leb-false 1 (length m.attributes) none in inl (omega arith))
-    (λ rest.
-    ⊎_elim
-    (λ none. let low = leb-false 1 (length m.rights) none in inr (inl (omega arith)))
-    (λ none. let low = leb-false 1 (length m.objects) none in inr (inr (omega arith)))
-    (and_cases (leb 1 (length m.rights)) (leb 1 (length m.objects)) rest))
-    (and_cases (leb 1 (length m.attributes)) (leb 1 (length m.rights) && leb 1 (length m.objects)) h)
+incomplete m h = grind (arith, nat_tests)
 
 is_incomplete : (m : SchemeModel) → Incomplete m → complete m ≡ false
-is_incomplete m (inl none) = and_left (leb 1 (length m.attributes)) (leb 1 (length m.rights) && leb 1 (length m.objects)) (lt-leb 1 (length m.attributes) (omega arith))
-is_incomplete m (inr (inl none)) = and_right (leb 1 (length m.attributes)) (leb 1 (length m.rights) && leb 1 (length m.objects)) (and_left (leb 1 (length m.rights)) (leb 1 (length m.objects)) (lt-leb 1 (length m.rights) (omega arith)))
-is_incomplete m (inr (inr none)) = and_right (leb 1 (length m.attributes)) (leb 1 (length m.rights) && leb 1 (length m.objects)) (and_right (leb 1 (length m.rights)) (leb 1 (length m.objects)) (lt-leb 1 (length m.objects) (omega arith)))
-
-either_way : (b : Bool) → b ≡ true → b ≡ false → ⊥
-either_way b yes_b no_b = let z : true ≡ false = sym yes_b ∙ no_b in let z' : ◌≡◌ {A = ℕ} 0 1 = cc in omega arith
+is_incomplete m lacks = grind (arith, nat_tests)
 
 pub is_complete : (m : SchemeModel) (b : Bool) → complete m ≡ b → (Incomplete m → ⊥) → complete m ≡ true
 is_complete m true h whole = h
@@ -51,8 +39,8 @@ module _ (n : ℕ) (m : SchemeModel) where
   ended_as : (whole few : Bool) → complete m ≡ whole → few_states m ≡ few → Ended (ended whole few)
   unfolding Ended
   ended_as false few h k = inl (incomplete m h, refl)
-  ended_as true false h k = inr (λ i. either_way (complete m) h (is_incomplete m i), leb-false (state_count m) 1048576 k, refl)
-  ended_as true true h k = (λ i. either_way (complete m) h (is_incomplete m i), leb-true (state_count m) 1048576 k, refl)
+  ended_as true false h k = inr (λ i. both_ways (complete m) (is_incomplete m i) h, leb-false (state_count m) 1048576 k, refl)
+  ended_as true true h k = (λ i. both_ways (complete m) (is_incomplete m i) h, leb-true (state_count m) 1048576 k, refl)
 
   ends : Ended (finished n m)
   ends = ended_as (complete m) (few_states m) refl refl

@@ -3,3 +3,5 @@ pub mod Naming
 pub mod Declaring
 pub mod Reading
 pub mod Refusing
+pub mod Readers
+pub mod Candidates

@@ -34,11 +34,6 @@ read_kind p ws (Some k) = and_then (named_line k ws p.scheme) (λ m. Ok (record 
 abbrev pub read_line : Progress → PlainLine → Result Progress SchemeFault
 read_line p l = and_then (carried OfLine (formed_line p.last (length p.scheme.attributes) l)) (read_kind p (words_of l))
 
--- what the reading of a line answers, with what it leaves
-abbrev pub after_line : Result (Option Kind) SchemeFault → SchemeModel → Result Progress SchemeFault
-after_line (Ok k) m = Ok (record { scheme = m; last = k })
-after_line (Err e) m = Err e
-
 -- a scheme has an attribute, a right and an object
 abbrev pub complete : SchemeModel → Bool
 complete m = nat_le 1 (length m.attributes) && (nat_le 1 (length m.rights) && nat_le 1 (length m.objects))

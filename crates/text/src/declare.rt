@@ -1,241 +1,178 @@
-// What a line without a fault adds to the draft.
-ghost use Rattle.std.specs.Prelude.{◌≡◌, ◌≤◌, length, if◌then◌else◌};
+// What a line without a fault declares.
+ghost use Rattle.std.specs.Prelude.{◌≡◌};
 ghost use Rattle.bounded.specs.Items.{items};
-ghost use Rattle.scheme.specs.Models.{attribute_of, object_of, names_of, room_for};
-ghost use Rattle.scheme.specs.Drafts.{draft_of};
-ghost use Rattle.words.specs.Positions.{word_of};
-ghost use Rattle.words.specs.Cuts.{line_words};
-ghost use Rattle.text.specs.Declaring.{name_in, number_in, value_in, number_among, term_in, operand_in, comparison_in, party_in, values_at, attribute_in, object_in, test_in, compare_in, predicate_in, source_in, action_in, query_in, declared};
+ghost use Rattle.scheme.specs.Declarations.{kind_of, with_declaration};
+ghost use Rattle.scheme.specs.Models.{attribute_of, object_of, names_of};
+ghost use Rattle.words.specs.Positions.{word_of, word_in};
+ghost use Rattle.text.specs.Candidates.{above, its_kind, its_words};
+ghost use Rattle.text.specs.Declaring.{number_among, term_in, operand_in, values_at, attribute_in, object_in, test_in, compare_in, predicate_in, source_in, action_in, query_in, declared};
 
+use crate::candidate::Candidate;
+use crate::meaning::{comparison_of, name_of, number_of, party_of, value_of};
 use bounded::Bounded;
-use lines::order::is_word;
-use scheme::draft::Draft;
+use scheme::declaration::Declaration;
 use scheme::entries::{Attribute, Object, Query};
 use scheme::kind::Kind;
-use scheme::names::Name;
-use scheme::terms::{Action, Clause, Comparison, Operand, Party, Predicate, Term};
-use words::classify::classify;
-use words::position::{Line, Word};
-use words::token::{Operator, Token};
+use scheme::terms::{Action, Clause, Operand, Party, Predicate, Term};
+use words::position::Word;
+use words::token::Token;
 
-// The name that a word is; a word of another form is the empty one.
-fn name_of(word: Word) -> Name
-    ensures { items result ≡ name_in (word_of word.entry) }
-{
-    match classify(word) {
-        Token::Name(name) => Bounded::from_slice(name.bytes, 0).unwrap_or(Bounded::new(0)),
-        _ => Bounded::new(0),
+impl<'a> Candidate<'a> {
+    fn word(self, index: usize) -> Word<'a>
+        ensures { word_of result ≡ word_in (its_words self.entry) index }
+    {
+        self.statement.line.word(index)
     }
-}
 
-// The number that a word is; a word of another form is 0.
-fn number_of(word: Word) -> u8
-    ensures { result ≡ number_in (word_of word.entry) }
-{
-    match classify(word) {
-        Token::Number(_, number) => number,
-        _ => 0,
+    // The number of the entry of this kind with this name, 0 where there is none.
+    fn number_among(self, kind: Kind, name: &[u8]) -> u8
+        ensures { result ≡ number_among name.now (names_of kind (above self.entry)) }
+    {
+        self.draft.find(kind, name).unwrap_or(0) as u8
     }
-}
 
-// The value that a word is; a word that is no number is null.
-fn value_of(word: Word) -> Option<u8>
-    ensures { result ≡ value_in (word_of word.entry) }
-{
-    match classify(word) {
-        Token::Number(_, number) => Some(number),
-        _ => None,
+    // The number of the entry of this kind that the word at an index names.
+    fn number_named(self, kind: Kind, index: usize) -> u32
+        ensures { result ≡ number_among (word_in (its_words self.entry) index).bytes (names_of kind (above self.entry)) }
+    {
+        u32::from(self.number_among(kind, self.word(index).bytes))
     }
-}
 
-// The number of the entry of this kind with this name, 0 where there is none.
-fn number_among(draft: &Draft, kind: Kind, name: &[u8]) -> u8
-    ensures { result ≡ number_among name.now (names_of kind (draft_of draft.now)) }
-{
-    match draft.find(kind, name) {
-        Some(number) => number as u8,
-        None => 0,
-    }
-}
-
-fn term_of(draft: &Draft, word: Word) -> Term
-    ensures { result ≡ term_in (draft_of draft.now) (word_of word.entry) }
-{
-    match classify(word) {
-        Token::Term(_, party, attribute) => Term {
-            party,
-            attribute: number_among(draft, Kind::Attr, attribute),
-        },
-        _ => Term {
-            party: Party::Subject,
-            attribute: 0,
-        },
-    }
-}
-
-fn operand_of(draft: &Draft, word: Word) -> Operand
-    ensures { result ≡ operand_in (draft_of draft.now) (word_of word.entry) }
-{
-    match classify(word) {
-        Token::Term(_, Party::Subject, attribute) => Operand::SubjectAttribute(number_among(
-            draft,
-            Kind::Attr,
-            attribute,
-        )),
-        Token::Term(_, Party::Object, attribute) => Operand::ObjectAttribute(number_among(
-            draft,
-            Kind::Attr,
-            attribute,
-        )),
-        Token::Number(_, number) => Operand::Constant(number),
-        _ => Operand::Constant(0),
-    }
-}
-
-fn comparison_of(word: Word) -> Comparison
-    ensures { result ≡ comparison_in (word_of word.entry) }
-{
-    match classify(word) {
-        Token::Operator(_, Operator::Compare(comparison)) => comparison,
-        _ => Comparison::Equal,
-    }
-}
-
-fn party_of(word: Word) -> Party
-    ensures { result ≡ party_in (word_of word.entry) }
-{
-    if is_word(word.bytes, b"s") {
-        Party::Subject
-    } else {
-        Party::Object
-    }
-}
-
-fn attribute_of(line: Line) -> Attribute
-    ensures { attribute_of result ≡ attribute_in (line_words line.entry) }
-{
-    Attribute {
-        name: name_of(line.word(1)),
-        size: number_of(line.word(2)),
-    }
-}
-
-// A value or null for each attribute.
-fn values_of(draft: &Draft, line: Line) -> Bounded<Option<u8>, 4>
-    ensures { items result ≡ values_at 2 (draft_of draft.now).attributes (line_words line.entry) }
-{
-    let mut values = Bounded::new(None);
-    for attribute in 0..draft.attributes().len() {
-        values.push(value_of(line.word(attribute + 2)));
-    }
-    values
-}
-
-fn object_of(draft: &Draft, line: Line) -> Object
-    ensures { object_of result ≡ object_in (draft_of draft.now) (line_words line.entry) }
-{
-    Object {
-        name: name_of(line.word(1)),
-        values: values_of(draft, line),
-    }
-}
-
-fn test_of(draft: &Draft, line: Line) -> Predicate
-    ensures { result ≡ test_in (draft_of draft.now) (line_words line.entry) }
-{
-    let term = term_of(draft, line.word(1));
-    if is_word(line.word(2).bytes, b"null") {
-        Predicate::Null(term)
-    } else {
-        Predicate::Set(term)
-    }
-}
-
-fn compare_of(draft: &Draft, line: Line) -> Predicate
-    ensures { result ≡ compare_in (draft_of draft.now) (line_words line.entry) }
-{
-    let term = term_of(draft, line.word(1));
-    Predicate::Compare(
-        term,
-        comparison_of(line.word(2)),
-        operand_of(draft, line.word(3)),
-    )
-}
-
-fn predicate_of(draft: &Draft, line: Line) -> Predicate
-    ensures { result ≡ predicate_in (draft_of draft.now) (line_words line.entry) }
-{
-    if line.count_words() == 3 {
-        test_of(draft, line)
-    } else {
-        compare_of(draft, line)
-    }
-}
-
-// What `to` assigns.
-fn assignment_of(draft: &Draft, term: Term, word: Word) -> Action
-    ensures { result ≡ source_in (draft_of draft.now) term (word_of word.entry) }
-{
-    match classify(word) {
-        Token::Operator(..) => Action::Clear(term),
-        _ => Action::Assign(term, operand_of(draft, word)),
-    }
-}
-
-fn action_of(draft: &Draft, line: Line) -> Action
-    ensures { result ≡ action_in (draft_of draft.now) (line_words line.entry) }
-{
-    if line.count_words() == 3 {
-        return Action::Destroy(party_of(line.word(2)));
-    }
-    let term = term_of(draft, line.word(1));
-    let verb = line.word(2).bytes;
-    if is_word(verb, b"to") {
-        assignment_of(draft, term, line.word(3))
-    } else if is_word(verb, b"add") {
-        Action::Add(term, number_of(line.word(3)))
-    } else {
-        Action::Sub(term, number_of(line.word(3)))
-    }
-}
-
-fn query_of(draft: &Draft, line: Line) -> Query
-    ensures { result ≡ query_in (draft_of draft.now) (line_words line.entry) }
-{
-    Query {
-        subject: number_among(draft, Kind::Object, line.word(1).bytes) as u32,
-        object: number_among(draft, Kind::Object, line.word(2).bytes) as u32,
-        right: number_among(draft, Kind::Right, line.word(3).bytes) as u32,
-    }
-}
-
-// One entry more of the line's kind, where there is room for it; whether there was.
-pub(crate) fn declare(draft: &mut Draft, kind: Kind, line: Line) -> bool
-    ensures room { result ≡ room_for kind (draft_of draft.old) }
-    ensures after { draft_of draft.new ≡ (if result then declared kind (line_words line.entry) (draft_of draft.old) else draft_of draft.old) }
-{
-    match kind {
-        Kind::Attr => draft.add_attribute(attribute_of(line)),
-        Kind::Right => draft.add_right(name_of(line.word(1))),
-        Kind::Object => {
-            let object = object_of(draft, line);
-            draft.add_object(object)
+    fn term(self, index: usize) -> Term
+        ensures { result ≡ term_in (above self.entry) (word_in (its_words self.entry) index) }
+    {
+        match Token::from(self.word(index)) {
+            Token::Term(_, party, name) => Term {
+                party,
+                attribute: self.number_among(Kind::Attr, name),
+            },
+            _ => Term {
+                party: Party::Subject,
+                attribute: 0,
+            },
         }
-        Kind::Policy => {
-            let right = number_among(draft, Kind::Right, line.word(2).bytes) as u32;
-            draft.open_policy(name_of(line.word(1)), right)
+    }
+
+    fn operand(self, index: usize) -> Operand
+        ensures { result ≡ operand_in (above self.entry) (word_in (its_words self.entry) index) }
+    {
+        match Token::from(self.word(index)) {
+            Token::Term(_, party, name) => {
+                let attribute = self.number_among(Kind::Attr, name);
+                match party {
+                    Party::Subject => Operand::SubjectAttribute(attribute),
+                    Party::Object => Operand::ObjectAttribute(attribute),
+                }
+            }
+            Token::Number(_, number) => Operand::Constant(number),
+            _ => Operand::Constant(0),
         }
-        Kind::If => {
-            let predicate = predicate_of(draft, line);
-            draft.fill_policy(Clause::If(predicate))
+    }
+
+    fn attribute(self) -> Attribute
+        ensures { attribute_of result ≡ attribute_in (its_words self.entry) }
+    {
+        Attribute {
+            name: name_of(self.word(1)),
+            size: number_of(self.word(2)),
         }
-        Kind::Do => {
-            let action = action_of(draft, line);
-            draft.fill_policy(Clause::Do(action))
+    }
+
+    // A value or null for each attribute, which an attribute past the last word has too: so the
+    // words are not gone through beside the attributes.
+    fn values(self) -> Bounded<Option<u8>, 4>
+        ensures { items result ≡ values_at 2 (above self.entry).attributes (its_words self.entry) }
+    {
+        let mut values = Bounded::new(None);
+        for attribute in 0..self.draft.attributes().len() {
+            values.push(value_of(self.word(attribute + 2))).unwrap();
         }
-        Kind::Query => {
-            let query = query_of(draft, line);
-            draft.add_query(query)
+        values
+    }
+
+    fn object(self) -> Object
+        ensures { object_of result ≡ object_in (above self.entry) (its_words self.entry) }
+    {
+        Object {
+            name: name_of(self.word(1)),
+            values: self.values(),
+        }
+    }
+
+    fn test(self) -> Predicate
+        ensures { result ≡ test_in (above self.entry) (its_words self.entry) }
+    {
+        match self.word(2).bytes {
+            b"null" => Predicate::Null(self.term(1)),
+            _ => Predicate::Set(self.term(1)),
+        }
+    }
+
+    fn compare(self) -> Predicate
+        ensures { result ≡ compare_in (above self.entry) (its_words self.entry) }
+    {
+        Predicate::Compare(self.term(1), comparison_of(self.word(2)), self.operand(3))
+    }
+
+    fn predicate(self) -> Predicate
+        ensures { result ≡ predicate_in (above self.entry) (its_words self.entry) }
+    {
+        if self.statement.line.count_words() == 3 {
+            self.test()
+        } else {
+            self.compare()
+        }
+    }
+
+    // What `to` assigns.
+    fn assignment(self) -> Action
+        ensures { result ≡ source_in (above self.entry) (term_in (above self.entry) (word_in (its_words self.entry) 1)) (word_in (its_words self.entry) 3) }
+    {
+        match Token::from(self.word(3)) {
+            Token::Operator(..) => Action::Clear(self.term(1)),
+            _ => Action::Assign(self.term(1), self.operand(3)),
+        }
+    }
+
+    fn action(self) -> Action
+        ensures { result ≡ action_in (above self.entry) (its_words self.entry) }
+    {
+        if self.statement.line.count_words() == 3 {
+            return Action::Destroy(party_of(self.word(2)));
+        }
+        match self.word(2).bytes {
+            b"to" => self.assignment(),
+            b"add" => Action::Add(self.term(1), number_of(self.word(3))),
+            _ => Action::Sub(self.term(1), number_of(self.word(3))),
+        }
+    }
+
+    fn query(self) -> Query
+        ensures { result ≡ query_in (above self.entry) (its_words self.entry) }
+    {
+        Query {
+            subject: self.number_named(Kind::Object, 1),
+            object: self.number_named(Kind::Object, 2),
+            right: self.number_named(Kind::Right, 3),
+        }
+    }
+
+    // What the line adds to what the lines above it declare.
+    pub(crate) fn declaration(self) -> Declaration
+        ensures kind { kind_of result ≡ its_kind self.entry }
+        ensures adds { with_declaration result (above self.entry) ≡ declared (its_kind self.entry) (its_words self.entry) (above self.entry) }
+    {
+        match self.statement.kind {
+            Kind::Attr => Declaration::Attribute(self.attribute()),
+            Kind::Right => Declaration::Right(name_of(self.word(1))),
+            Kind::Object => Declaration::Object(self.object()),
+            Kind::Policy => Declaration::Policy {
+                name: name_of(self.word(1)),
+                right: self.number_named(Kind::Right, 2),
+            },
+            Kind::If => Declaration::Clause(Clause::If(self.predicate())),
+            Kind::Do => Declaration::Clause(Clause::Do(self.action())),
+            Kind::Query => Declaration::Query(self.query()),
         }
     }
 }

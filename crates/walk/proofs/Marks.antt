@@ -1,10 +1,10 @@
 -- Marks tell which states are listed, and one more entry changes one mark.
-use Rattle.std.proofs.Common.{◌≡◌, ℕ, ◌+◌, ◌<◌, true, false, cond, eqb, List, [], ◌∷◌, ◌++◌, length, set, sym, refl, ap, ◌∙◌, ⊎_elim, arith}
+use Rattle.std.proofs.Common.{◌≡◌, ℕ, ◌+◌, ◌<◌, true, false, cond, eqb, List, [], ◌∷◌, ◌++◌, length, set, slice_index, sym, refl, ap, ◌∙◌, ⊎_elim, arith}
 use Rattle.std.proofs.lemmas.Bool.{cond-true, cond-false, eq-eqb, ne_eqb, or_parts, or_from, cases_Bool, cases_eq}
 use Rattle.std.proofs.lemmas.List.{length-set, get_or-set_same, get_or-set_other}
 use Rattle.walk.specs.declared.records.Found.{Found}
 use Rattle.walk.specs.Search.{entry, listed}
-use Rattle.walk.specs.Results.{mark_from, mark}
+use Rattle.walk.specs.Results.{mark_from}
 use Rattle.walk.specs.Tables.{Marked}
 
 mark_from_zero : (k : ℕ) (found : List Found) (s : ℕ) → mark_from k found s ≡ 0 → listed found s ≡ false
@@ -22,13 +22,14 @@ mark_from_unlisted k (x ∷ xs) s e =
     let h = or_parts (eqb x.state s) (listed xs s) e in
     cond-false (eqb x.state s) (k + 1) (mark_from (k + 1) xs s) h.0 ∙ mark_from_unlisted (k + 1) xs s h.1
 
--- no mark: not listed
-pub unmarked : (found : List Found) (s : ℕ) → mark found s ≡ 0 → listed found s ≡ false
-unmarked found s e = mark_from_zero 0 found s e
+module _ (marks : List ℕ) (found : List Found) (s : ℕ) (all : Marked marks found) (below : s < length marks) where
+  -- no mark: not listed
+  pub is_new : slice_index marks s ≡ 0 → listed found s ≡ false
+  is_new e = mark_from_zero 0 found s (sym (all s below) ∙ e)
 
--- a mark: listed
-pub marked : (found : List Found) (s : ℕ) → (mark found s ≡ 0 → ⊥) → listed found s ≡ true
-marked found s h = ⊎_elim (λ t. t) (λ f. absurd (h (mark_from_unlisted 0 found s f))) (cases_Bool (listed found s))
+  -- a mark: listed
+  pub is_listed : (slice_index marks s ≡ 0 → ⊥) → listed found s ≡ true
+  is_listed h = ⊎_elim (λ t. t) (λ f. absurd (h (all s below ∙ mark_from_unlisted 0 found s f))) (cases_Bool (listed found s))
 
 mark_from_new : (k : ℕ) (found : List Found) (t p m : ℕ) → listed found t ≡ false → mark_from k (found ++ (entry t p m ∷ [])) t ≡ k + length found + 1
 mark_from_new k [] t p m e = omega (arith, cond-true (eqb t t) (k + 1) 0 (eq-eqb t t refl))

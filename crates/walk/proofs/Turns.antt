@@ -1,18 +1,29 @@
 -- One turn of the loop over the moves, on the tables.
 use Rattle.std.proofs.Common.{◌≡◌, ℕ, ◌+◌, ◌-◌, ◌<◌, ◌≤◌, Bool, true, false, List, [], ◌∷◌, ◌++◌, length, take, drop, is_some, Some, None, Option, sym, refl, ap, ◌∙◌, arith}
-use Rattle.std.proofs.lemmas.List.{length-take-le, get_or-take, drop-drop, get_or_append_left}
+use Rattle.std.proofs.lemmas.List.{length-take-le, drop-drop, get_or_append_left}
 use Rattle.std.proofs.lemmas.Bool.{and_from, and_left, and_right, cond_both}
 use Rattle.walk.specs.declared.records.Found.{Found}
 use Rattle.walk.specs.Walks.{Walk, Bounds}
 use Rattle.walk.specs.Search.{entry, state_at, listed, ends, with_next, after_try}
 use Rattle.walk.proofs.Invariant.{room, turn, next}
 use Rattle.walk.proofs.Steps.{move_more, move_done}
-use Rattle.walk.specs.Tables.{from_place, from_move, Marked, Searching, Trying, Stopping, Passing}
+use Rattle.walk.specs.declared.listing.Listing.{Listing}
+use Rattle.walk.specs.Listings.{SameTables}
+use Rattle.walk.specs.Tables.{from_place, from_move, Marked, Trying, Stopping, Passing}
 
 pub drop_later : {X : Type 0} (n k : ℕ) (xs ys : List X) → n ≤ k → drop n xs ≡ drop n ys → drop k xs ≡ drop k ys
 drop_later n k xs ys h e =
     let d : k ≡ n + (k - n) = omega arith in
     rw d (sym (drop-drop (k - n) n xs) ∙ (ap (λ l. drop (k - n) l) e ∙ drop-drop (k - n) n ys))
+
+-- the tables stay the same over two parts of a search
+pub same_on : {a b c : Listing} → SameTables a b → SameTables b c → SameTables a c
+same_on p q = record {
+  marks = q.marks ∙ p.marks;
+  table = q.table ∙ p.table;
+  marks_length = q.marks_length ∙ p.marks_length;
+  table_length = q.table_length ∙ p.table_length;
+}
 
 -- the state at a place is not changed by a try
 with_next_state : (found : List Found) (place m : ℕ) (o : Option ℕ) (p : ℕ) → p < length found → state_at (with_next found place m o) p ≡ state_at found p
@@ -23,19 +34,6 @@ with_next_state found place m (Some t) p h =
     (λ _. ap (λ (x : Found). x.state) (get_or_append_left found (entry t place m ∷ []) (entry 0 0 0) p h))
 
 module _ (walk : Walk) (bounded : Bounds walk) (stop : ℕ → Bool) (before : List Found) (listed' place : ℕ) where
-  pub try_begins : (marks : List ℕ) → Searching walk stop marks before before listed' place 0 → place < listed'
-      → Trying walk stop marks before before listed' listed' place 0
-  try_begins marks s h = record {
-    searching = s;
-    grows = omega arith;
-    here = h;
-    below = omega arith;
-    same = λ tried. (let e : tried ≡ tried + 0 = omega arith in ap (λ (n : ℕ). from_move walk stop place 0 (take listed' before) n) e);
-  }
-
-  pub state_read : (table : List Found) (count : ℕ) → place < count → state_at table place ≡ state_at (take count table) place
-  state_read table count h = ap (λ (x : Found). x.state) (sym (get_or-take count table place (entry 0 0 0) h))
-
   module _ (marks : List ℕ) (table : List Found) (count m : ℕ) (t : Trying walk stop marks table before listed' count place m) where
     list_length : length (take count table) ≡ count
     list_length = length-take-le count table t.searching.fits
@@ -124,19 +122,14 @@ module _ (walk : Walk) (bounded : Bounds walk) (stop : ℕ → Bool) (before : L
     Turned marks' table' count' =
         Trying walk stop marks' table' before listed' count' place (m + 1) × (state_at (take count table) place ≡ state_at (take count' table') place)
 
-    pub none_turn : walk.step (state_at (take count table) place) m ≡ None → m < walk.moves
-        → (marks' : List ℕ) (table' : List Found) (count' : ℕ) → marks' ≡ marks → table' ≡ table → count' ≡ count → Turned marks' table' count'
-    none_turn e h marks' table' count' em et ec =
-        rw (em, et, ec)
-        (try_more marks table count h (none_goes e) (none_list e) refl refl refl t.searching.fits (omega arith) t.searching.marked, refl)
+    pub none_turn : walk.step (state_at (take count table) place) m ≡ None → m < walk.moves → Turned marks table count
+    none_turn e h = (try_more marks table count h (none_goes e) (none_list e) refl refl refl t.searching.fits (omega arith) t.searching.marked, refl)
 
     pub some_turn : (u : ℕ) → walk.step (state_at (take count table) place) m ≡ Some u → stop m ≡ false → m < walk.moves
-        → (marks₁ : List ℕ) (table₁ : List Found) (count₁ : ℕ) → take count₁ table₁ ≡ with_next (take count table) place m (Some u)
-        → drop count₁ table₁ ≡ drop count₁ table → length table₁ ≡ length table → length marks₁ ≡ length marks → count₁ ≤ length table₁ → count ≤ count₁
-        → Marked marks₁ (take count₁ table₁)
-        → (marks' : List ℕ) (table' : List Found) (count' : ℕ) → marks' ≡ marks₁ → table' ≡ table₁ → count' ≡ count₁ → Turned marks' table' count'
-    some_turn u e s h marks₁ table₁ count₁ list rest size-t size-m fits grows marked marks' table' count' em et ec =
-        rw (em, et, ec) (
-          try_more marks₁ table₁ count₁ h (unstopped_goes s) (list ∙ some_list u e) rest size-t size-m fits grows marked,
-          sym (try_state table₁ count₁ (list ∙ some_list u e)),
-        )
+        → (marks' : List ℕ) (table' : List Found) (count' : ℕ) → take count' table' ≡ with_next (take count table) place m (Some u)
+        → drop count' table' ≡ drop count' table → length table' ≡ length table → length marks' ≡ length marks → count' ≤ length table' → count ≤ count'
+        → Marked marks' (take count' table') → Turned marks' table' count'
+    some_turn u e s h marks' table' count' list rest size-t size-m fits grows marked = (
+      try_more marks' table' count' h (unstopped_goes s) (list ∙ some_list u e) rest size-t size-m fits grows marked,
+      sym (try_state table' count' (list ∙ some_list u e)),
+    )

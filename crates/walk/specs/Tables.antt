@@ -1,8 +1,8 @@
 -- What the tables hold in the midst of a search, for the contracts of its own functions.
-use Rattle.std.specs.Prelude.{◌≡◌, ℕ, ◌+◌, ◌-◌, ◌*◌, ◌<◌, ◌≤◌, Bool, true, List, [], ◌∷◌, ◌++◌, length, take, drop, slice_index}
+use Rattle.std.specs.Prelude.{◌≡◌, ℕ, ◌+◌, ◌-◌, ◌*◌, ◌<◌, ◌≤◌, Bool, true, List, length, take, drop, slice_index}
 use Rattle.walk.specs.declared.records.Found.{Found}
 use Rattle.walk.specs.Walks.{Walk}
-use Rattle.walk.specs.Search.{Outcome, stopped, exhausted, ends, moves_to, try_moves, take_states, search_from}
+use Rattle.walk.specs.Search.{Outcome, ends, try_moves, take_states, search_from}
 use Rattle.walk.specs.Results.{mark}
 use Rattle.walk.specs.Kept.{Kept}
 
@@ -55,14 +55,3 @@ pub record Taking (walk : Walk) (stop : ℕ → Bool) (marks : List ℕ) (table 
   pub upto : place ≤ count
   pub count_tried : tried ≡ place * walk.moves
   pub same : search_from walk stop ≡ from_place walk stop place (take count table) tried
-
--- the move m in the state at `place` has ended the search
-pub record StoppedAt (walk : Walk) (stop : ℕ → Bool) (marks : List ℕ) (table before : List Found) (count place m tried : ℕ) : Type 0 where
-  pub searching : Searching walk stop marks table before count place m
-  pub here : place < count
-  pub outcome : search_from walk stop ≡ stopped (take count table) tried (moves_to (take count table) place ++ (m ∷ []))
-
--- every listed state was taken
-pub record AllTaken (walk : Walk) (stop : ℕ → Bool) (marks : List ℕ) (table before : List Found) (count tried : ℕ) : Type 0 where
-  pub searching : Searching walk stop marks table before count count 0
-  pub outcome : search_from walk stop ≡ exhausted (take count table) tried

@@ -6,9 +6,6 @@ ghost use Rattle.walk.specs.Walks.{Walk as WalkModel, Bounds};
 pub trait Walk {
     ghost model: { Self → WalkModel };
 
-    // a member whose type is the fact, as a law would be
-    ghost bounds: { (w : Self) → Bounds (model w) };
-
     fn states(&self) -> u32
         ensures { result ≡ (model self.now).states };
 
@@ -20,9 +17,12 @@ pub trait Walk {
 
     fn step(&self, state: u32, mv: u32) -> Option<u32>
         ensures { result ≡ (model self.now).step state mv };
+
+    ghost bounds: { (w : Self) → Bounds (model w) };
 }
 
 // The stop test of a search: the first enabled move that meets the goal ends it.
+// No closure, since the contracts name the test as a function, and a closure has a relation.
 pub trait Goal {
     ghost stops: { Self → ℕ → Bool };
 

@@ -11,7 +11,8 @@ pub struct Found {
 }
 
 // How a search ended: how many states are listed, how many moves were tried, the ending one
-// counted, and where a move ended it the length of the witness.
+// counted, and where a move ended it the length of the witness. An enum, and no struct with an
+// `Option` of the length, since each case says by its name what the contracts say of it.
 #[derive(Clone, Copy)]
 pub enum Ending {
     // an enabled move met the goal

@@ -14,6 +14,7 @@ fn depth(found: &[Found], place: u32) -> u32
 {
     let mut at = place;
     let mut steps: u32 = 0;
+    // no chain of an iterator, since each place is read from the table at the one before
     while at != 0 {
         at = found[at as usize].parent;
         steps += 1;
@@ -31,14 +32,13 @@ pub(crate) fn write_witness(found: &[Found], place: u32, mv: u32, witness: &mut 
     ensures total { result ≡ length (moves_to found.now place ++ (mv ∷ [])) }
     ensures written { witness.new ≡ (moves_to found.now place ++ (mv ∷ [])) ++ drop result witness.old }
 {
-    let mut left = depth(found, place);
-    let total = left + 1;
-    witness[left as usize] = mv;
+    let depth = depth(found, place);
+    witness[depth as usize] = mv;
     let mut at = place;
-    while left != 0 {
-        left -= 1;
-        witness[left as usize] = found[at as usize].mv;
-        at = found[at as usize].parent;
+    for left in (0..depth).rev() {
+        let step = found[at as usize];
+        witness[left as usize] = step.mv;
+        at = step.parent;
     }
-    total
+    depth + 1
 }

@@ -1,6 +1,6 @@
 -- A word that is a name has at most 15 bytes.
 use Rattle.std.proofs.Common.{◌≡◌, ℕ, ◌≤◌, Bool, true, false, cond, List, [], ◌∷◌, length, Some, None, Option, refl, ap, arith}
-use Rattle.std.proofs.lemmas.Bool.{and_parts, leb-true}
+use Rattle.std.proofs.lemmas.Bool.Decides.{nat_tests}
 use Rattle.scheme.specs.declared.terms.Party.{Party}
 use Rattle.words.specs.declared.token.Operator.{Operator}
 use Rattle.words.specs.Forms.{is_name, number_in, term_in, operator_in}
@@ -8,16 +8,13 @@ use Rattle.words.specs.Tokens.{Form, name, operator_form, term_form, number_form
 
 is_name_short : (w : List ℕ) → is_name w ≡ true → length w ≤ 15
 is_name_short [] h = omega arith
-is_name_short (b ∷ bs) h =
-    let parts = and_parts _ _ h in
-    let more = and_parts _ _ parts.1 in
-    omega (arith, leb-true (length bs) 14 more.0)
+is_name_short (b ∷ bs) h = grind (arith, nat_tests)
 
 no_name : (b : List ℕ) (n : Option ℕ) (t : Option (Party × List ℕ)) (o : Option Operator) → name b ≡ number_form n (term_form t (operator_form o)) → ⊥
-no_name b (Some n) t o e = let z : ◌≡◌ {A = ℕ} 0 1 = cc in omega arith
-no_name b None (Some t) o e = let z : ◌≡◌ {A = ℕ} 0 1 = cc in omega arith
-no_name b None None (Some o) e = let z : ◌≡◌ {A = ℕ} 0 1 = cc in omega arith
-no_name b None None None e = let z : ◌≡◌ {A = ℕ} 0 1 = cc in omega arith
+no_name b (Some n) t o e = grind arith
+no_name b None (Some t) o e = grind arith
+no_name b None None (Some o) e = grind arith
+no_name b None None None e = grind arith
 
 named : (t : Bool) (w b : List ℕ) (f : Form) → (name b ≡ f → ⊥) → name b ≡ cond t (name w) f → (t ≡ true) × (b ≡ w)
 named true w b f no-f e = (refl, cc)

@@ -1,5 +1,5 @@
 mod Pieces
-mod Scan
+mod Searches
 mod Shapes
 pub mod Lengths
 pub mod Turns

@@ -1,71 +1,108 @@
--- The first piece of a list of bytes.
-use Rattle.std.proofs.Common.{◌≡◌, ℕ, zero, suc, ◌+◌, ◌-◌, ◌^◌, ◌<◌, ◌≤◌, cond, List, [], ◌∷◌, length, get_or, take, drop, sym, ap, ◌∙◌, ⊎_elim, add-one, arith, length-drop}
-use Rattle.std.proofs.lemmas.List.{get_or-drop, drop-drop, drop_more, drop_all, length-take-le}
-use Rattle.std.proofs.lemmas.Bool.{cases_lt, eq-eqb, ne_eqb}
-use Rattle.words.specs.Positions.{PlainLine}
-use Rattle.words.specs.Cuts.{pieces, on_first, placed, words_from}
+-- The first piece of some bytes, the first line of a text and the first word of a line.
+use Rattle.std.proofs.Common.{◌≡◌, ℕ, suc, ◌+◌, ◌-◌, ◌<◌, ◌≤◌, min, Bool, true, false, cond, not, eqb, List, [], ◌∷◌, length, get_or, take, drop, sym, refl, ap, ◌∙◌, ⊎_elim, arith}
+use Rattle.std.specs.List.{position_or_len}
+use Rattle.std.proofs.lemmas.List.{take_rest, drop_more, drop_all, length-take-le}
+use Rattle.std.proofs.lemmas.List.Sums.{prefix_len-le-length, prefix_len_stops}
+use Rattle.std.proofs.lemmas.Bool.{cases_lt, not-false, not-true, eqb-true, eq-eqb}
+use Rattle.words.specs.Cuts.{on_first, pieces, numbered, placed}
 
-pub piece_first : (sep : ℕ) (xs : List ℕ) (n : ℕ) → 0 < length xs → n ≤ length xs → ((k : ℕ) → k < n → get_or xs k 0 ≡ sep → ⊥) → (n < length xs → get_or xs n 0 ≡ sep) → pieces sep xs ≡ take n xs ∷ pieces sep (drop (suc n) xs)
-piece_first sep [] n some within free stop = absurd (omega arith)
-piece_first sep (b ∷ bs) zero some within free stop =
-    rw (eq-eqb b sep (stop (omega arith)))
-piece_first sep (b ∷ []) (suc n) some within free stop =
-    let z : n ≡ 0 = omega arith in
-    rw (ne_eqb b sep (free 0 (omega arith)), z)
-piece_first sep (b ∷ c ∷ bs) (suc n) some within free stop =
-    let rest = piece_first sep (c ∷ bs) n (omega arith) (omega arith) (λ k h. free (suc k) (omega arith)) (λ h. stop (omega arith)) in
-    ap (λ t. cond t ([] ∷ pieces sep (c ∷ bs)) (on_first b (pieces sep (c ∷ bs)))) (ne_eqb b sep (free 0 (omega arith))) ∙ ap (on_first b) rest
+-- how many bytes stand before the first separator, and how many spaces before the first word
+abbrev pub end : ℕ → List ℕ → ℕ
+end separator xs = position_or_len (λ b. eqb b separator) xs
 
-pub piece_from : (sep : ℕ) (xs : List ℕ) (i e : ℕ) → i < length xs → i ≤ e → e ≤ length xs → ((k : ℕ) → i ≤ k → k < e → get_or xs k 0 ≡ sep → ⊥) → (e < length xs → get_or xs e 0 ≡ sep) → pieces sep (drop i xs) ≡ take (e - i) (drop i xs) ∷ pieces sep (drop (e + 1) xs)
-piece_from sep xs i e some above within free stop =
-    let long = length-drop i xs in
-    let next : i + suc (e - i) ≡ e + 1 = omega arith in
-    let here : i + (e - i) ≡ e = omega arith in
-    piece_first sep (drop i xs) (e - i) (omega arith) (omega arith) (λ k h s. free (i + k) (omega arith) (omega arith) (sym (get_or-drop i xs k 0) ∙ s)) (λ h. get_or-drop i xs (e - i) 0 ∙ ap (λ k. get_or xs k 0) here ∙ stop (omega arith))
-    ∙ ap (λ l. take (e - i) (drop i xs) ∷ pieces sep l) (drop-drop (suc (e - i)) i xs ∙ ap (λ k. drop k xs) next)
+abbrev pub start : List ℕ → ℕ
+start xs = position_or_len (λ b. not (eqb b 32)) xs
 
-module _ (l : PlainLine) where
-  abbrev n : ℕ
-  n = l.number
+module _ (separator : ℕ) where
+  first_at : (t : Bool) (b : ℕ) (bs : List ℕ) → (0 < length bs → pieces separator bs ≡ take (end separator bs) bs ∷ pieces separator (drop (suc (end separator bs)) bs)) → cond t ([] ∷ pieces separator bs) (on_first b (pieces separator bs)) ≡ take (cond (not t) (1 + end separator bs) 0) (b ∷ bs) ∷ pieces separator (drop (suc (cond (not t) (1 + end separator bs) 0)) (b ∷ bs))
+  first_at true b bs rest = refl
+  first_at false b [] rest = refl
+  first_at false b (c ∷ cs) rest =
+      let next : suc (end separator (c ∷ cs)) ≡ 1 + end separator (c ∷ cs) = omega arith in
+      ap (on_first b) (rest (omega arith)) ∙ ap (λ k. take k (b ∷ c ∷ cs) ∷ pieces separator (drop (suc k) (b ∷ c ∷ cs))) next
 
-  abbrev bytes : List ℕ
-  bytes = l.bytes
+  pub piece_first : (xs : List ℕ) → 0 < length xs → pieces separator xs ≡ take (end separator xs) xs ∷ pieces separator (drop (suc (end separator xs)) xs)
+  piece_first [] some = absurd (omega arith)
+  piece_first (b ∷ bs) some = first_at (eqb b separator) b bs (piece_first bs)
 
-  pub words_space : (i : ℕ) → i < length bytes → get_or bytes i 0 ≡ 32 → words_from l i ≡ words_from l (i + 1)
-  words_space i h e =
-      ap (λ x. placed n (suc i) (pieces 32 x)) (drop_more bytes i 0 h)
-      ∙ ap (λ t. placed n (suc i) (cond t ([] ∷ pieces 32 (drop (i + 1) bytes)) (on_first (get_or bytes i 0) (pieces 32 (drop (i + 1) bytes))))) (eq-eqb _ 32 e)
-      ∙ ap (λ k. placed n k (pieces 32 (drop (i + 1) bytes))) (sym (ap suc (add-one i)))
+  pub end_within : (xs : List ℕ) → end separator xs ≤ length xs
+  end_within xs = prefix_len-le-length (λ b. not (eqb b separator)) xs
 
-  pub words_none : (i : ℕ) → length bytes ≤ i → words_from l i ≡ []
-  words_none i h = ap (λ x. placed n (suc i) (pieces 32 x)) (drop_all i bytes h)
+  pub end_stops : (xs : List ℕ) → end separator xs < length xs → get_or xs (end separator xs) 0 ≡ separator
+  end_stops xs within = eqb-true _ separator (not-false _ (prefix_len_stops (λ b. not (eqb b separator)) xs 0 within))
 
-  placed_first : (i : ℕ) (w : List ℕ) (ps : List (List ℕ)) → 0 < length w → placed n (suc i) (w ∷ ps) ≡ record { bytes = w; line = n; place = i + 1 } ∷ placed n (suc (i + 1 + length w)) ps
-  placed_first i [] ps h = absurd (omega arith)
-  placed_first i (b ∷ w) ps h =
-      let p : suc i ≡ i + 1 = omega arith in
-      let q : suc i + suc (length (b ∷ w)) ≡ suc (i + 1 + length (b ∷ w)) = omega arith in
-      ap (λ k. record { bytes = b ∷ w; line = n; place = k } ∷ placed n (suc i + suc (length (b ∷ w))) ps) p ∙ ap (λ k. record { bytes = b ∷ w; line = n; place = i + 1 } ∷ placed n k ps) q
+-- what is cut off behind the first line is the rest of the text
+pub line_first : (n : ℕ) (xs : List ℕ) (e behind : ℕ) → 0 < length xs → e ≡ end 10 xs → behind ≡ min (length xs) (length (take e xs) + 1) → numbered n (pieces 10 xs) ≡ record { bytes = take e xs; number = n } ∷ numbered (n + 1) (pieces 10 (take (length xs - behind) (drop behind xs)))
+line_first n xs e behind some ends is =
+    let within : e ≤ length xs = omega (arith, end_within 10 xs) in
+    let long = length-take-le e xs within in
+    let rest : drop (suc e) xs ≡ drop behind xs =
+    ⊎_elim
+    (λ (more : e < length xs). let same : suc e ≡ behind = omega arith in ap (λ k. drop k xs) same)
+    (λ (all : length xs ≤ e). drop_all (suc e) xs (omega arith) ∙ sym (drop_all behind xs (omega arith)))
+    (cases_lt e (length xs)) in
+    ap (numbered n) (piece_first 10 xs some ∙ ap (λ k. take k xs ∷ pieces 10 (drop (suc k) xs)) (sym ends))
+    ∙ ap (λ l. record { bytes = take e xs; number = n } ∷ numbered (n + 1) (pieces 10 l)) (rest ∙ sym (take_rest xs behind))
+
+module _ (n : ℕ) where
+  skipped_at : (t : Bool) (p b : ℕ) (bs : List ℕ) → placed n (suc p) (pieces 32 bs) ≡ placed n (suc p + start bs) (pieces 32 (drop (start bs) bs)) → eqb b 32 ≡ t → placed n p (pieces 32 (b ∷ bs)) ≡ placed n (p + cond (not (not t)) (1 + start bs) 0) (pieces 32 (drop (cond (not (not t)) (1 + start bs) 0) (b ∷ bs)))
+  skipped_at true p b bs rest is =
+      let next : suc p + start bs ≡ p + (1 + start bs) = omega arith in
+      let one : suc (start bs) ≡ 1 + start bs = omega arith in
+      ap (λ t. placed n p (cond t ([] ∷ pieces 32 bs) (on_first b (pieces 32 bs)))) is
+      ∙ rest
+      ∙ ap (λ k. placed n k (pieces 32 (drop (start bs) bs))) next
+      ∙ ap (λ k. placed n (p + (1 + start bs)) (pieces 32 (drop k (b ∷ bs)))) one
+  skipped_at false p b bs rest is =
+      let here : p ≡ p + 0 = omega arith in
+      ap (λ k. placed n k (pieces 32 (b ∷ bs))) here
+
+  -- spaces before a word only move its place
+  skipped : (p : ℕ) (xs : List ℕ) → placed n p (pieces 32 xs) ≡ placed n (p + start xs) (pieces 32 (drop (start xs) xs))
+  skipped p [] = refl
+  skipped p (b ∷ bs) = skipped_at (eqb b 32) p b bs (skipped (suc p) bs) refl
+
+  -- only spaces are left
+  pub words_none : (p : ℕ) (xs : List ℕ) → length xs ≤ start xs → placed n p (pieces 32 xs) ≡ []
+  words_none p xs none = skipped p xs ∙ ap (λ l. placed n (p + start xs) (pieces 32 l)) (drop_all (start xs) xs none)
+
+  placed_first : (p : ℕ) (w : List ℕ) (ps : List (List ℕ)) → 0 < length w → placed n p (w ∷ ps) ≡ record { bytes = w; line = n; place = p } ∷ placed n (suc (p + length w)) ps
+  placed_first p [] ps some = absurd (omega arith)
+  placed_first p (b ∷ w) ps some =
+      let next : p + suc (length (b ∷ w)) ≡ suc (p + length (b ∷ w)) = omega arith in
+      ap (λ k. record { bytes = b ∷ w; line = n; place = p } ∷ placed n k ps) next
 
   -- a word ends at a space or at the end of the line, where the search for the next one goes on
-  resumed : (e : ℕ) → e ≤ length bytes → (e < length bytes → get_or bytes e 0 ≡ 32) → words_from l (e + 1) ≡ words_from l e
-  resumed e within stops = ⊎_elim (λ (h : e < length bytes). sym (words_space e h (stops h))) (λ (h : length bytes ≤ e). words_none (e + 1) (omega arith) ∙ sym (words_none e h)) (cases_lt e (length bytes))
+  resumed : (p : ℕ) (xs : List ℕ) → placed n (suc p) (pieces 32 (drop (suc (end 32 xs)) xs)) ≡ placed n p (pieces 32 (drop (end 32 xs) xs))
+  resumed p xs =
+      let e = end 32 xs in
+      let next : suc e ≡ e + 1 = omega arith in
+      ⊎_elim
+      (λ (more : e < length xs).
+      ap (λ k. placed n (suc p) (pieces 32 (drop k xs))) next
+      ∙ sym (ap (λ t. placed n p (cond t ([] ∷ pieces 32 (drop (e + 1) xs)) (on_first (get_or xs e 0) (pieces 32 (drop (e + 1) xs))))) (eq-eqb _ 32 (end_stops 32 xs more)))
+      ∙ sym (ap (λ l. placed n p (pieces 32 l)) (drop_more xs e 0 more)))
+      (λ (all : length xs ≤ e). ap (λ l. placed n (suc p) (pieces 32 l)) (drop_all (suc e) xs (omega arith)) ∙ sym (ap (λ l. placed n p (pieces 32 l)) (drop_all e xs all)))
+      (cases_lt e (length xs))
 
-  pub words_first : (i e : ℕ) → i < e → e ≤ length bytes → e < 2 ^ 64 → (e < length bytes → get_or bytes e 0 ≡ 32) → pieces 32 (drop i bytes) ≡ take (e - i) (drop i bytes) ∷ pieces 32 (drop (e + 1) bytes) → (words_from l i ≡ record { bytes = take (e - i) (drop i bytes); line = n; place = i + 1 } ∷ words_from l (i + 1 - 1 + length (take (e - i) (drop i bytes)))) × (1 ≤ i + 1) × (i < i + 1 - 1 + length (take (e - i) (drop i bytes))) × (i + 1 - 1 + length (take (e - i) (drop i bytes)) < 2 ^ 64)
-  words_first i e some within small stops cut =
-      let long : length (take (e - i) (drop i bytes)) ≡ e - i = length-take-le (e - i) (drop i bytes) (omega (arith, length-drop i bytes)) in
-      let next : e + 1 ≡ i + 1 + length (take (e - i) (drop i bytes)) = omega arith in
-      let end : e ≡ i + 1 - 1 + length (take (e - i) (drop i bytes)) = omega arith in (
-        ap (placed n (suc i)) cut
-            ∙ placed_first i (take (e - i) (drop i bytes)) (pieces 32 (drop (e + 1) bytes)) (omega arith)
-            ∙ ap (λ k. record { bytes = take (e - i) (drop i bytes); line = n; place = i + 1 } ∷ placed n (suc k) (pieces 32 (drop (e + 1) bytes))) (sym next)
-            ∙ ap (λ ws. record { bytes = take (e - i) (drop i bytes); line = n; place = i + 1 } ∷ ws) (resumed e within stops ∙ ap (words_from l) end),
-        omega arith,
-        omega arith,
-        omega arith,
-      )
+  -- a word begins where the spaces end
+  word_at : (p : ℕ) (xs : List ℕ) → 0 < end 32 xs → placed n p (pieces 32 xs) ≡ record { bytes = take (end 32 xs) xs; line = n; place = p } ∷ placed n (p + length (take (end 32 xs) xs)) (pieces 32 (drop (end 32 xs) xs))
+  word_at p xs some =
+      let w = take (end 32 xs) xs in
+      let within = end_within 32 xs in
+      let long : length w ≡ end 32 xs = length-take-le (end 32 xs) xs within in
+      ap (placed n p) (piece_first 32 xs (omega arith))
+      ∙ placed_first p w (pieces 32 (drop (suc (end 32 xs)) xs)) (omega arith)
+      ∙ ap (λ ws. record { bytes = w; line = n; place = p } ∷ ws) (resumed (p + length w) xs)
 
-  -- a piece that begins with another byte than a space is no empty one
-  pub first_byte : (i e : ℕ) → i ≤ e → i < length bytes → (get_or bytes i 0 ≡ 32 → ⊥) → (e < length bytes → get_or bytes e 0 ≡ 32) → i < e
-  first_byte i e above within other stops =
-      ⊎_elim (λ (h : i < e). h) (λ (h : e ≤ i). let same : e ≡ i = omega arith in absurd (other (ap (λ k. get_or bytes k 0) (sym same) ∙ stops (omega arith)))) (cases_lt i e)
+  begins : (x : ℕ) (xs : List ℕ) → eqb x 32 ≡ false → 0 < end 32 (x ∷ xs)
+  begins x xs other = rw (other, end) (omega arith)
+
+  some_word : (xs : List ℕ) → start xs < length xs → 0 < end 32 (drop (start xs) xs)
+  some_word xs some =
+      let x = get_or xs (start xs) 0 in
+      let other : eqb x 32 ≡ false = not-true _ (not-false _ (prefix_len_stops (λ b. not (not (eqb b 32))) xs 0 some)) in
+      rw (drop_more xs (start xs) 0 some) (begins x (drop (start xs + 1) xs) other)
+
+  pub words_first : (p : ℕ) (xs : List ℕ) (k : ℕ) (from word rest : List ℕ) (e : ℕ) → start xs < length xs → start xs ≡ k → from ≡ drop k xs → e ≡ end 32 from → word ≡ take e from → rest ≡ drop e from → placed n p (pieces 32 xs) ≡ record { bytes = word; line = n; place = p + k } ∷ placed n (p + k + length word) (pieces 32 rest)
+  words_first p xs k from word rest e some at is ends front back = skipped p xs ∙ rw (front, back, ends, is, ← at) (word_at (p + start xs) (drop (start xs) xs) (some_word xs some))

@@ -1,12 +1,13 @@
 -- The forms of a word by its parts, as a slice pattern reads them.
 use Rattle.std.proofs.Common.{◌≡◌, ℕ, ◌-◌, ◌<◌, ◌≤◌, Bool, cond, ◌&&◌, eqb, leb, List, [], ◌∷◌, length, get_or, take, drop, Some, None, Option, sym, ap, arith}
+use Rattle.std.specs.List.{list_all}
 use Rattle.std.proofs.lemmas.List.{take_rest}
 use Rattle.scheme.specs.declared.terms.Party.{Party}
 use Rattle.scheme.specs.declared.terms.Party.TheVariants.{Subject, Object}
-use Rattle.words.specs.Forms.{lower, name_byte, every, is_name, term_in}
+use Rattle.words.specs.Forms.{lower, name_byte, is_name, term_in}
 
 abbrev name_parts : ℕ → List ℕ → Bool
-name_parts b bs = lower b && (leb (length bs) 14 && every name_byte bs)
+name_parts b bs = lower b && (leb (length bs) 14 && list_all name_byte bs)
 
 pub is_name_at : (w : List ℕ) → 0 < length w → is_name w ≡ name_parts (get_or w 0 0) (take (length w - 1) (drop 1 w))
 is_name_at [] h = absurd (omega arith)

@@ -1,38 +1,38 @@
--- A check of each item in turn, by a loop that leaves at the first that refuses.
-use Rattle.std.proofs.Common.{◌≡◌, ℕ, ◌+◌, ◌<◌, ◌≤◌, List, [], ◌∷◌, length, get_or, drop, Ok, Err, Result, sym, refl, ap, ◌∙◌}
-use Rattle.std.proofs.lemmas.List.{at_drop_more, at_drop_all}
+-- A check of each item in turn, by a search for the first item that is not good.
+use Rattle.std.proofs.Common.{◌≡◌, ℕ, suc, ◌+◌, ◌<◌, ◌≤◌, Bool, true, false, cond, not, List, [], ◌∷◌, length, get_or, Ok, Err, Result, refl, ap, ◌∙◌, arith}
+use Rattle.std.specs.List.{position_or_len}
 use Rattle.words.specs.Outcomes.{and_then, in_turn}
 
-module _ {X E : Type 0} (check : ℕ → X → Result (Unit {0}) E) (answer : Result (Unit {0}) E) where
-  abbrev next : ℕ → List X → Result (Unit {0}) E → Result (Unit {0}) E
-  next i xs r = and_then r (λ _. in_turn check (i + 1) xs)
+module _ {X E : Type 0} (good : X → Bool) (fault : ℕ → X → E) where
+  abbrev judged : Bool → ℕ → X → Result (Unit {0}) E
+  judged t i x = cond t (Ok tt) (Err (fault i x))
 
-  -- the loop goes by an index i into the whole list
-  module _ (xs : List X) (i : ℕ) (x : X) (inv : in_turn check i (drop i xs) ≡ answer) where
-    pub turn_stops : (e : E) → i < length xs → check i (get_or xs i x) ≡ Err e → Err e ≡ answer
-    turn_stops e h refused = sym (at_drop_more (in_turn check i) xs i x h ∙ ap (next i (drop (i + 1) xs)) refused) ∙ inv
+  abbrev judge : ℕ → X → Result (Unit {0}) E
+  judge i x = judged (good x) i x
 
-    pub turn_passes : i < length xs → check i (get_or xs i x) ≡ Ok tt → in_turn check (i + 1) (drop (i + 1) xs) ≡ answer
-    turn_passes h passed = sym (at_drop_more (in_turn check i) xs i x h ∙ ap (next i (drop (i + 1) xs)) passed) ∙ inv
+  -- how many good items stand before it
+  abbrev before : List X → ℕ
+  before xs = position_or_len (λ x. not (good x)) xs
 
-    pub turns_end : length xs ≤ i → Ok tt ≡ answer
-    turns_end h = sym (at_drop_all (in_turn check i) xs i h) ∙ inv
+  refused_at : (t : Bool) (i : ℕ) (x : X) (xs : List X) (d : X) → (before xs < length xs → in_turn judge (i + 1) xs ≡ Err (fault (i + 1 + before xs) (get_or xs (before xs) d))) → cond (not (not t)) (1 + before xs) 0 < length (x ∷ xs) → and_then (judged t i x) (λ _. in_turn judge (i + 1) xs) ≡ Err (fault (i + cond (not (not t)) (1 + before xs) 0) (get_or (x ∷ xs) (cond (not (not t)) (1 + before xs) 0) d))
+  refused_at false i x xs d rest some =
+      let here : i ≡ i + 0 = omega arith in
+      ap (λ k. Err (fault k x)) here
+  refused_at true i x xs d rest some =
+      let place : i + 1 + before xs ≡ i + (1 + before xs) = omega arith in
+      let one : suc (before xs) ≡ 1 + before xs = omega arith in
+      rest (omega arith)
+      ∙ ap (λ k. Err (fault k (get_or xs (before xs) d))) place
+      ∙ ap (λ k. Err (fault (i + (1 + before xs)) (get_or (x ∷ xs) k d))) one
 
-  -- the loop takes the items from what is left of them
-  module _ (i : ℕ) (left later : List X) (x : X) (inv : in_turn check i left ≡ answer) (taken : left ≡ x ∷ later) where
-    one : in_turn check i left ≡ next i later (check i x)
-    one = ap (in_turn check i) taken
+  pub first_refused : (i : ℕ) (xs : List X) (d : X) → before xs < length xs → in_turn judge i xs ≡ Err (fault (i + before xs) (get_or xs (before xs) d))
+  first_refused i [] d some = absurd (omega arith)
+  first_refused i (x ∷ xs) d some = refused_at (good x) i x xs d (first_refused (i + 1) xs d) some
 
-    pub item_stops : (e : E) → Err e ≡ check i x → Err e ≡ answer
-    item_stops e refused = sym (one ∙ ap (next i later) (sym refused)) ∙ inv
+  passed_at : (t : Bool) (i : ℕ) (x : X) (xs : List X) → (length xs ≤ before xs → in_turn judge (i + 1) xs ≡ Ok tt) → length (x ∷ xs) ≤ cond (not (not t)) (1 + before xs) 0 → and_then (judged t i x) (λ _. in_turn judge (i + 1) xs) ≡ Ok tt
+  passed_at false i x xs rest all = absurd (omega arith)
+  passed_at true i x xs rest all = rest (omega arith)
 
-    pub item_passes : Ok tt ≡ check i x → in_turn check (i + 1) later ≡ answer
-    item_passes passed = sym (one ∙ ap (next i later) (sym passed)) ∙ inv
-
-  pub items_end : (i : ℕ) (left : List X) → in_turn check i left ≡ answer → left ≡ [] → Ok tt ≡ answer
-  items_end i left inv none = sym (ap (in_turn check i) none) ∙ inv
-
--- where a check does not look at the numbers, these may begin anywhere
-pub from_any : {X E : Type 0} (check : X → Result (Unit {0}) E) (i j : ℕ) (xs : List X) → in_turn (λ _ x. check x) i xs ≡ in_turn (λ _ x. check x) j xs
-from_any check i j [] = refl
-from_any check i j (x ∷ xs) = ap (λ r. and_then (check x) (λ _. r)) (from_any check (i + 1) (j + 1) xs)
+  pub all_passed : (i : ℕ) (xs : List X) → length xs ≤ before xs → in_turn judge i xs ≡ Ok tt
+  all_passed i [] all = refl
+  all_passed i (x ∷ xs) all = passed_at (good x) i x xs (all_passed (i + 1) xs) all

@@ -1,5 +1,6 @@
 -- The forms of words, by their bytes.
-use Rattle.std.specs.Prelude.{ℕ, ◌+◌, ◌-◌, ◌*◌, Bool, true, false, cond, ◌&&◌, ◌||◌, List, [], ◌∷◌, length, Some, None, Option, ◌==◌, nat_le, nat_lt}
+use Rattle.std.specs.Prelude.{ℕ, ◌+◌, ◌-◌, ◌*◌, Bool, false, cond, ◌&&◌, ◌||◌, List, [], ◌∷◌, length, Some, None, Option, ◌==◌, nat_le, nat_lt}
+use Rattle.std.specs.List.{list_all}
 use Rattle.scheme.specs.declared.terms.Party.{Party}
 use Rattle.scheme.specs.declared.terms.Party.TheVariants.{Subject, Object}
 use Rattle.scheme.specs.declared.terms.Comparison.TheVariants.{Equal, NotEqual, Less, AtMost, Greater, AtLeast}
@@ -18,14 +19,10 @@ digit b = nat_le 48 b && nat_le b 57
 abbrev pub name_byte : ℕ → Bool
 name_byte b = lower b || (digit b || b == 95)
 
-abbrev pub every : (ℕ → Bool) → List ℕ → Bool
-every p [] = true
-every p (b ∷ bs) = p b && every p bs
-
 -- a letter, then letters, digits or _, at most 15 bytes
 abbrev pub is_name : List ℕ → Bool
 is_name [] = false
-is_name (b ∷ bs) = lower b && (nat_le (length bs) 14 && every name_byte bs)
+is_name (b ∷ bs) = lower b && (nat_le (length bs) 14 && list_all name_byte bs)
 
 -- 0 to 255 in digits, without leading zeros
 abbrev pub number_in : List ℕ → Option ℕ

@@ -17,7 +17,7 @@ abbrev pub line_of : Line → PlainLine
 line_of l = record { bytes = l.bytes.now; number = l.number }
 
 abbrev pub word_of : Word → PlainWord
-word_of w = record { bytes = w.bytes.now; line = w.line; place = w.place }
+word_of w = record { bytes = w.bytes.now; line = w.spot.line; place = w.spot.place }
 
 -- where a word stands
 abbrev pub spot_of : PlainWord → Spot

@@ -3,7 +3,6 @@ ghost use Rattle.std.specs.Prelude.{◌≡◌};
 ghost use Rattle.words.specs.Positions.{line_of};
 ghost use Rattle.words.specs.Plain.{printable, plain_bytes, short_words, plain_line};
 
-use crate::cut::Words;
 use crate::fault::WordFault;
 use crate::position::{Line, Spot};
 
@@ -12,35 +11,30 @@ const MAX_WORD: usize = 17;
 fn is_printable(b: u8) -> bool
     ensures { result ≡ printable b }
 {
-    b >= 32 && b <= 126
+    matches!(b, b' '..=b'~')
 }
 
 // Each byte of the line is printable.
 fn check_bytes(line: Line) -> Result<(), WordFault>
     ensures { result ≡ plain_bytes (line_of line.entry) }
 {
-    for (i, b) in line.bytes.iter().enumerate() {
-        if !is_printable(*b) {
-            return Err(WordFault::Byte(Spot {
-                line: line.number,
-                place: i + 1,
-            }));
-        }
+    match line.bytes.iter().position(|b| !is_printable(*b)) {
+        Some(i) => Err(WordFault::Byte(Spot {
+            line: line.number,
+            place: i + 1,
+        })),
+        None => Ok(()),
     }
-    Ok(())
 }
 
 // No word is above 17 bytes.
 fn check_lengths(line: Line) -> Result<(), WordFault>
     ensures { result ≡ short_words (line_of line.entry) }
 {
-    let mut words = Words::of(line);
-    while let Some(word) = words.next() {
-        if word.bytes.len() > MAX_WORD {
-            return Err(WordFault::LongWord(word.spot()));
-        }
+    match line.words().find(|word| word.bytes.len() > MAX_WORD) {
+        Some(word) => Err(WordFault::LongWord(word.spot)),
+        None => Ok(()),
     }
-    Ok(())
 }
 
 pub fn check_line(line: Line) -> Result<(), WordFault>

@@ -1,7 +1,7 @@
 // Which form a word has.
 ghost use Rattle.std.specs.Prelude.{◌≡◌};
 ghost use Rattle.std.specs.Option.{option_map};
-ghost use Rattle.words.specs.Forms.{lower, digit, name_byte, every, is_name, number_in, operator_in, term_in};
+ghost use Rattle.words.specs.Forms.{name_byte, is_name, number_in, operator_in, term_in};
 ghost use Rattle.words.specs.Positions.{word_of};
 ghost use Rattle.words.specs.Tokens.{term_of, form_of, token_form, token_word};
 
@@ -11,41 +11,19 @@ use scheme::terms::{Comparison, Party};
 
 const MAX_NAME: usize = 15;
 
-fn is_lower(b: u8) -> bool
-    ensures { result ≡ lower b }
-{
-    b >= b'a' && b <= b'z'
-}
-
-fn is_digit(b: u8) -> bool
-    ensures { result ≡ digit b }
-{
-    b >= b'0' && b <= b'9'
-}
-
 fn is_name_byte(b: u8) -> bool
     ensures { result ≡ name_byte b }
 {
-    is_lower(b) || is_digit(b) || b == b'_'
-}
-
-// Whether each byte may stand in a name after its first.
-fn all_name_bytes(bytes: &[u8]) -> bool
-    ensures { result ≡ every name_byte bytes.now }
-{
-    for b in bytes {
-        if !is_name_byte(*b) {
-            return false;
-        }
-    }
-    true
+    b.is_ascii_lowercase() || b.is_ascii_digit() || b == b'_'
 }
 
 fn is_name(word: &[u8]) -> bool
     ensures { result ≡ is_name word.now }
 {
     match word {
-        [first, rest @ ..] => is_lower(*first) && rest.len() < MAX_NAME && all_name_bytes(rest),
+        [first, rest @ ..] => first.is_ascii_lowercase()
+            && rest.len() < MAX_NAME
+            && rest.iter().all(|b| is_name_byte(*b)),
         [] => false,
     }
 }
@@ -55,12 +33,15 @@ fn number_in(word: &[u8]) -> Option<u8>
     ensures { result ≡ number_in word.now }
 {
     match word {
-        [a] if is_digit(*a) => Some(*a - b'0'),
-        [a, b] if *a > b'0' && is_digit(*a) && is_digit(*b) => Some(10 * (*a - b'0') + (*b - b'0')),
-        [a, b, c] if *a > b'0' && is_digit(*a) && is_digit(*b) && is_digit(*c) => {
-            let n = 100 * (*a - b'0') as u16 + 10 * (*b - b'0') as u16 + (*c - b'0') as u16;
-            if n < 256 { Some(n as u8) } else { None }
-        }
+        [a] if a.is_ascii_digit() => Some(*a - b'0'),
+        [a, b] if *a > b'0' && a.is_ascii_digit() && b.is_ascii_digit() => Some(
+            10 * (*a - b'0') + (*b - b'0'),
+        ),
+        [a, b, c] if *a > b'0' && a.is_ascii_digit() && b.is_ascii_digit() && c.is_ascii_digit() =>
+            {
+                let n = 100 * (*a - b'0') as u16 + 10 * (*b - b'0') as u16 + (*c - b'0') as u16;
+                u8::try_from(n).ok()
+            }
         _ => None,
     }
 }
@@ -98,21 +79,22 @@ fn term_in<'a>(word: &'a [u8]) -> Option<(Party, &'a [u8])>
 }
 
 // The token that a word is.
-pub fn classify<'a>(word: Word<'a>) -> Token<'a>
-    ensures form { token_form result ≡ form_of word.entry.bytes.now }
-    ensures place { token_word result ≡ word_of word.entry }
-{
-    if is_name(word.bytes) {
-        return Token::Name(word);
+impl<'a> From<Word<'a>> for Token<'a> {
+    ghost from_gives = { λ w t. (token_form t ≡ form_of w.bytes.now) × (token_word t ≡ word_of w) };
+
+    fn from(word: Word<'a>) -> Token<'a> {
+        if is_name(word.bytes) {
+            return Token::Name(word);
+        }
+        if let Some(n) = number_in(word.bytes) {
+            return Token::Number(word, n);
+        }
+        if let Some((party, name)) = term_in(word.bytes) {
+            return Token::Term(word, party, name);
+        }
+        if let Some(operator) = operator_in(word.bytes) {
+            return Token::Operator(word, operator);
+        }
+        Token::Other(word)
     }
-    if let Some(n) = number_in(word.bytes) {
-        return Token::Number(word, n);
-    }
-    if let Some((party, name)) = term_in(word.bytes) {
-        return Token::Term(word, party, name);
-    }
-    if let Some(operator) = operator_in(word.bytes) {
-        return Token::Operator(word, operator);
-    }
-    Token::Other(word)
 }

@@ -12,7 +12,7 @@ pub enum WordFault {
 }
 
 // A refusal's number, line and place.
-#[derive(Clone, Copy)]
+#[derive(Clone, Copy, Debug, PartialEq, Eq)]
 pub struct Report {
     pub number: u32,
     pub line: usize,

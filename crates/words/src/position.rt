@@ -6,17 +6,16 @@ pub struct Line<'a> {
     pub number: usize,
 }
 
-// A word, its line and the place of its first byte in that line.
-#[derive(Clone, Copy)]
-pub struct Word<'a> {
-    pub bytes: &'a [u8],
-    pub line: usize,
-    pub place: usize,
-}
-
-// Where a fault lies.
+// A line and a place in it.
 #[derive(Clone, Copy)]
 pub struct Spot {
     pub line: usize,
     pub place: usize,
+}
+
+// A word and the spot of its first byte.
+#[derive(Clone, Copy)]
+pub struct Word<'a> {
+    pub bytes: &'a [u8],
+    pub spot: Spot,
 }

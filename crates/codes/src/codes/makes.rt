@@ -1,48 +1,39 @@
 // Codes for given sizes.
-ghost use Rattle.std.specs.Prelude.{◌≡◌, ℕ, ◌<◌, ◌≤◌, length, if◌then◌else◌, Some, None, nat_le, slice_index};
+ghost use Rattle.std.specs.Prelude.{◌≡◌, if◌then◌else◌, Some, None, nat_le};
 ghost use Rattle.std.specs.Option.{option_map};
 ghost use Rattle.bounded.specs.Items.{items};
 ghost use Rattle.scheme.specs.Sizes.{size_states};
-ghost use Rattle.codes.specs.Weights.{weight};
 ghost use Rattle.codes.specs.Meanings.{sizes_in};
 
 use super::Codes;
+use crate::digit::Digit;
 use bounded::Bounded;
 
 const MAX_CODES: u64 = 1_048_576;
-
-// The product of size + 1 over the first attributes. Four sizes are at most 2 to the power 32.
-fn weight_of(sizes: &[u8], attributes: usize) -> u64
-    requires { length sizes.now ≤ 4 }
-    ensures value { result ≡ weight sizes.now attributes }
-    ensures small { result ≤ 4294967296 }
-    ensures bytes { (a : ℕ) → slice_index sizes.now a < 256 }
-{
-    let mut product = 1;
-    for at in 0..attributes.min(sizes.len()) {
-        product *= sizes[at] as u64 + 1;
-    }
-    product
-}
 
 impl Codes {
     // None where one object has more than 1,048,576 codes.
     pub fn of(sizes: Bounded<u8, 4>) -> Option<Codes>
         ensures { option_map sizes_in result ≡ (if nat_le (size_states (items sizes)) 1048576 then Some (items sizes) else None) }
     {
-        let list = sizes.as_slice();
-        let radix = 1 + weight_of(list, 4);
+        let mut digits = Bounded::new(Digit { size: 0, weight: 1 });
+        // The product of size + 1 over the attributes so far. Four sizes are at most 2 to the power 32.
+        let mut weight = 1;
+        for size in sizes.as_slice() {
+            digits
+                .push(Digit {
+                    size: *size,
+                    weight: weight as u32,
+                })
+                .unwrap();
+            weight *= *size as u64 + 1;
+        }
+        let radix = 1 + weight;
         if radix > MAX_CODES {
             return None;
         }
         Some(Codes {
-            sizes,
-            weights: [
-                1,
-                weight_of(list, 1) as u32,
-                weight_of(list, 2) as u32,
-                weight_of(list, 3) as u32,
-            ],
+            digits,
             radix: radix as u32,
         })
     }

@@ -9,22 +9,17 @@ ghost use Rattle.codes.specs.Weights.{summed};
 ghost use Rattle.codes.specs.Meanings.{object_of, sizes_in};
 
 use super::Codes;
-use super::values::{part_of, value_of};
+use crate::digit::{part_of, value_of};
 use crate::object::{ObjectState, Values};
 use bounded::Bounded;
 
 impl Codes {
+    // The values that a sum of parts stands for.
     fn values_from(&self, sum: u32) -> Values
         ensures { items result ≡ values_from (sizes_in self.now) sum }
     {
-        let mut values = Bounded::new(None);
-        let mut rest = sum;
-        for size in self.sizes.as_slice() {
-            let parts = *size as u32 + 1;
-            values.push(value_of(rest % parts));
-            rest /= parts;
-        }
-        values
+        let digits = self.digits.as_slice().iter();
+        Bounded::collect(None, digits.map(|digit| value_of(digit.part_in(sum)))).unwrap()
     }
 
     // The object that a code stands for; none where the number is no code.
@@ -45,15 +40,16 @@ impl Codes {
         ensures value { result ≡ summed 0 1 (sizes_in self.now) values.now }
         ensures small { IfSome result (λ sum. sum < 1048576) }
     {
-        if values.len() != self.sizes.as_slice().len() {
+        let digits = self.digits.as_slice();
+        if values.len() != digits.len() {
             return None;
         }
         let mut sum = 0;
-        for (at, value) in values.iter().enumerate() {
-            if !self.fits(at as u8, *value) {
+        for (digit, value) in digits.iter().zip(values) {
+            if !digit.fits(*value) {
                 return None;
             }
-            sum += part_of(*value) * self.weights[at];
+            sum += part_of(*value) * digit.weight;
         }
         Some(sum)
     }

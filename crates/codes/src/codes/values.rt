@@ -1,51 +1,31 @@
 // Attributes on the code of an object.
-ghost use Rattle.std.specs.Prelude.{◌≡◌, ◌<◌, slice_index};
+ghost use Rattle.std.specs.Prelude.{◌≡◌, ◌<◌, slice_get, slice_index};
+ghost use Rattle.std.specs.Option.{option_copied};
+ghost use Rattle.bounded.specs.Items.{items};
 ghost use Rattle.scheme.specs.WellFormed.{value_fits};
 ghost use Rattle.codes.specs.Objects.{read_at};
-ghost use Rattle.codes.specs.Codes.{part, from_part, value_in, object_from, updated_code};
+ghost use Rattle.codes.specs.Codes.{part, value_in, object_from, updated_code};
 ghost use Rattle.codes.specs.Meanings.{sizes_in};
 
 use super::Codes;
+use crate::digit::{Digit, part_of, value_of};
 
-// 0 for null, v + 1 for the value v.
-pub(crate) fn part_of(value: Option<u8>) -> u32
-    ensures { result ≡ part value }
-{
-    match value {
-        None => 0,
-        Some(v) => v as u32 + 1,
-    }
-}
-
-// The value of a part.
-pub(crate) fn value_of(part: u32) -> Option<u8>
-    requires { part < 257 }
-    ensures { result ≡ from_part part }
-{
-    match part {
-        0 => None,
-        part => Some((part - 1) as u8),
-    }
-}
-
+// A code and the number of an attribute stand side by side, and no struct has both: of one code several
+// attributes are read, and the caller has each by itself.
 impl Codes {
-    // The size of an attribute; 0 where there is no such attribute.
-    fn size_at(&self, attribute: u8) -> u8
-        ensures { result ≡ slice_index (sizes_in self.now) attribute }
+    // None where there is no such attribute.
+    fn digit(&self, attribute: u8) -> Option<&Digit>
+        ensures { option_copied result ≡ slice_get (items self.now.digits) attribute }
     {
-        let sizes = self.sizes.as_slice();
-        let at = attribute as usize;
-        if at < sizes.len() { sizes[at] } else { 0 }
+        self.digits.as_slice().get(attribute as usize)
     }
 
-    // Null, or a value below the size of the attribute.
-    pub(crate) fn fits(&self, attribute: u8, value: Option<u8>) -> bool
+    // Null, or a value below the size of the attribute, which is 0 where there is no such attribute.
+    fn fits(&self, attribute: u8, value: Option<u8>) -> bool
         ensures { result ≡ value_fits (slice_index (sizes_in self.now) attribute) value }
     {
-        match value {
-            None => true,
-            Some(v) => v < self.size_at(attribute),
-        }
+        self.digit(attribute)
+            .map_or(value.is_none(), |digit| digit.fits(value))
     }
 
     // The part of an attribute in a code; 0 where there is no such attribute.
@@ -53,11 +33,8 @@ impl Codes {
         ensures value { result ≡ part (value_in (sizes_in self.now) code attribute) }
         ensures small { result < 257 }
     {
-        let at = attribute as usize;
-        if at >= self.weights.len() {
-            return 0;
-        }
-        code.saturating_sub(1) / self.weights[at] % (self.size_at(attribute) as u32 + 1)
+        self.digit(attribute)
+            .map_or(0, |digit| digit.part_in(code.saturating_sub(1)))
     }
 
     // The value, or null, of an attribute in the code of an object that is there.
@@ -85,13 +62,11 @@ impl Codes {
         if code == 0 || code >= self.radix || !self.fits(attribute, value) {
             return None;
         }
-        let at = attribute as usize;
-        if at >= self.weights.len() {
+        let Some(digit) = self.digit(attribute) else {
             return Some(code);
-        }
-        let weight = self.weights[at];
-        let old = self.part_in(code, attribute);
+        };
+        let old = digit.part_in(code - 1);
         let new = part_of(value);
-        Some(code - old * weight + new * weight)
+        Some(code - old * digit.weight + new * digit.weight)
     }
 }

@@ -1,19 +1,16 @@
--- The move is the lowest, or is not enabled with that label.
-use Rattle.std.proofs.Common.{◌<◌, sym, ◌∙◌, arith}
-use Rattle.protection.specs.Systems.{System, system_of}
+-- The first move that is enabled with that label is the lowest.
+use Rattle.std.proofs.Common.{◌≡◌, true, false, rules}
+use Rattle.std.proofs.lemmas.Iterator.{first_from_Range}
+use Rattle.protection.specs.Systems.{System}
+use Rattle.protection.specs.Meaning.{meaning}
 use Rattle.protection.specs.Histories.{enabled_as}
-use Rattle.protection.proofs.LowestLaws.{lowest_more, lowest_found}
+use Rattle.protection.proofs.LowestLaws.{lowest_of}
 use Rattle.monitor.proofs.lowest_enabled.Goals as goal
 
-pub returns-then-is_enabled_as : goal.returns-then-is_enabled_as
-returns-then-is_enabled_as g c =
-    let system : System = system_of (g.S.Walk.model c.args.system.now) (g.S.System.labels c.args.system.now) in
-    let below : c.loop-mv.mv < system.walk.moves = omega arith in
-    sym (lowest_found (enabled_as system c.args.state c.args.p) c.loop-mv.mv system.walk.moves c.loop-mv.invariant
-    (sym c.is_enabled_as.ensures ∙ c.if-is_enabled_as.true) below)
-
-pub loop-mv-preserved : goal.loop-mv-preserved
-loop-mv-preserved g c =
-    let system : System = system_of (g.S.Walk.model c.args.system.now) (g.S.System.labels c.args.system.now) in
-    lowest_more (enabled_as system c.args.state c.args.p) c.loop-mv.mv c.loop-mv.invariant
-    (sym c.is_enabled_as.ensures ∙ c.if-is_enabled_as.false)
+pub returns : goal.returns
+returns g c =
+    let system : System = meaning g.S.Walk g.S.System c.args.system.now in
+    lowest_of (enabled_as system c.args.state c.args.p) system.walk.moves c.find.result
+    (rw c.moves.ensures at (first_from_Range _ _ _ c.find.result
+    (λ m. enabled_as system c.args.state c.args.p m ≡ true) (λ m. enabled_as system c.args.state c.args.p m ≡ false)
+    c.find.ensures.ran (λ m q k. search rules) (λ m q k. (search rules, search rules))))

@@ -1,23 +1,11 @@
 // The table of all moves, so that no move is taken apart twice.
-ghost use Rattle.std.specs.Prelude.{◌≡◌, ◌*◌, ◌<◌, ◌≤◌, map};
+ghost use Rattle.std.specs.Prelude.{◌≡◌, ◌*◌, ◌≤◌, map};
 ghost use Rattle.std.specs.List.{range_with_len};
 ghost use Rattle.bounded.specs.Items.{items};
 ghost use Rattle.record.specs.Moves.{move_at};
 
-use super::Move;
+use super::{Move, move_at};
 use bounded::Bounded;
-
-fn move_at(objects: u32, mv: u32) -> Move
-    requires objects { objects ≤ 8 }
-    requires mv { mv < objects * objects * 32 }
-    ensures { result ≡ move_at objects mv }
-{
-    Move {
-        policy: (mv / (objects * objects)) as u8,
-        subject: (mv / objects % objects) as u8,
-        object: (mv % objects) as u8,
-    }
-}
 
 pub(crate) fn moves_of(objects: u32, policies: u32) -> Bounded<Move, 2048>
     requires objects { objects ≤ 8 }
@@ -30,7 +18,7 @@ pub(crate) fn moves_of(objects: u32, policies: u32) -> Bounded<Move, 2048>
         object: 0,
     });
     for mv in 0..objects * objects * policies {
-        moves.push(move_at(objects, mv));
+        moves.push(move_at(objects as u8, mv)).unwrap();
     }
     moves
 }

@@ -9,38 +9,31 @@ use super::Numbering;
 use bounded::Bounded;
 use codes::Codes;
 
-const MAX_STATES: u64 = 1_048_576;
+// A count of objects is at most 8 in what follows, because a draft has no more: it comes from a draft's
+// list, so that a type of its own would only say again what the list's contract says.
+
+const MAX_STATES: u32 = 1_048_576;
 
 // The count of codes to the power of the count of objects; none where that is more than a walk may
 // have.
-fn count_states(radix: u32, objects: usize) -> Option<u32>
-    requires positive { 0 < radix }
-    requires small { radix ≤ 1048576 }
+fn count_states(radix: u32, objects: u32) -> Option<u32>
     ensures { result ≡ (if nat_le (radix ^ objects) 1048576 then Some (radix ^ objects) else None) }
 {
-    let mut states: u64 = 1;
-    for _object in 0..objects {
-        states *= radix as u64;
-        if states > MAX_STATES {
-            return None;
-        }
-    }
-    Some(states as u32)
+    radix
+        .checked_pow(objects)
+        .filter(|states| *states <= MAX_STATES)
 }
 
-fn places_of(radix: u32, objects: usize) -> [u32; 8]
+fn places_of(radix: u32, objects: u32) -> Bounded<u32, 8>
     requires positive { 0 < radix }
-    requires small { radix ≤ 1048576 }
     requires fits { objects ≤ 8 }
     requires few { radix ^ objects ≤ 1048576 }
-    ensures places { Places radix objects result }
-    ensures eight { length result ≡ 8 }
+    ensures places { Places radix (items result) }
+    ensures count { length (items result) ≡ objects }
 {
-    let mut places = [1; 8];
-    let mut place = 1;
-    for at in 0..objects {
-        places[at] = place;
-        place *= radix;
+    let mut places = Bounded::new(1);
+    for object in 0..objects {
+        places.push(radix.pow(object)).unwrap();
     }
     places
 }
@@ -54,11 +47,10 @@ impl Numbering {
     {
         let codes = Codes::of(sizes)?;
         let radix = codes.radix();
-        let states = count_states(radix, objects)?;
-        let places = places_of(radix, objects);
+        let states = count_states(radix, objects as u32)?;
+        let places = places_of(radix, objects as u32);
         Some(Numbering {
             codes,
-            objects,
             places,
             states,
         })

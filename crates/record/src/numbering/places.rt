@@ -16,16 +16,25 @@ impl Numbering {
         &self.codes
     }
 
+    // What the code of an object counts for. Here and below an object's number is an index, and below the
+    // count as an index of a slice is: a type of such numbers would have to borrow its numbering.
+    fn place(&self, object: u32) -> u32
+        requires { object < (dimensions_of self.now).objects }
+        ensures { result ≡ size_states (dimensions_of self.now).sizes ^ object }
+    {
+        self.places.as_slice()[object as usize]
+    }
+
     // The code of an object in a state.
-    pub(crate) fn code_at(&self, state: u32, object: u8) -> u32
+    pub(crate) fn code_at(&self, state: u32, object: u32) -> u32
         requires { object < (dimensions_of self.now).objects }
         ensures { result ≡ state / size_states (dimensions_of self.now).sizes ^ object % size_states (dimensions_of self.now).sizes }
     {
-        state / self.places[object as usize] % self.codes.radix()
+        state / self.place(object) % self.codes.radix()
     }
 
     // The state with another code in the place of an object's.
-    pub(crate) fn exchange(&self, state: u32, object: u8, old: u32, new: u32) -> u32
+    pub(crate) fn exchange(&self, state: u32, object: u32, old: u32, new: u32) -> u32
         requires state { state < size_states (dimensions_of self.now).sizes ^ (dimensions_of self.now).objects }
         requires object { object < (dimensions_of self.now).objects }
         requires old { old ≡ state / size_states (dimensions_of self.now).sizes ^ object % size_states (dimensions_of self.now).sizes }
@@ -33,7 +42,7 @@ impl Numbering {
         ensures value { result ≡ number (dimensions_of self.now).sizes (slice_set (state_from (dimensions_of self.now).sizes (dimensions_of self.now).objects state) object (object_from (dimensions_of self.now).sizes new)) }
         ensures below { result < size_states (dimensions_of self.now).sizes ^ (dimensions_of self.now).objects }
     {
-        let place = self.places[object as usize];
+        let place = self.place(object);
         state - old * place + new * place
     }
 }

@@ -25,9 +25,9 @@ impl Numbering {
         ensures { result ≡ summed_from 0 0 (dimensions_of self.now).sizes (map object_of objects.now) }
     {
         let mut sum = 0;
-        for (at, object) in objects.iter().enumerate() {
+        for (object, place) in objects.iter().zip(self.places.as_slice()) {
             let code = self.codes.code(object)?;
-            sum += code * self.places[at];
+            sum += code * *place;
         }
         Some(sum)
     }
@@ -37,7 +37,7 @@ impl Numbering {
         ensures { result ≡ (if state_fits (dimensions_of self.now).sizes (dimensions_of self.now).objects (state_of state.now) then Some (number (dimensions_of self.now).sizes (state_of state.now)) else None) }
     {
         let objects = state.as_slice();
-        if objects.len() != self.objects {
+        if objects.len() != self.places.as_slice().len() {
             return None;
         }
         self.sum_codes(objects)
@@ -52,11 +52,9 @@ impl Numbering {
         }
         let radix = self.codes.radix();
         let mut state = Bounded::new(ObjectState::Absent);
-        let mut rest = number;
-        for _object in 0..self.objects {
-            let object = self.codes.object(rest % radix)?;
-            state.push(object);
-            rest /= radix;
+        for place in self.places.as_slice() {
+            let object = self.codes.object(number / *place % radix)?;
+            state.push(object).unwrap();
         }
         Some(state)
     }

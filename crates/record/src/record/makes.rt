@@ -22,7 +22,7 @@ fn sizes_in(draft: &Draft) -> Bounded<u8, 4>
 {
     let mut sizes = Bounded::new(0);
     for attribute in draft.attributes() {
-        sizes.push(attribute.size);
+        sizes.push(attribute.size).unwrap();
     }
     sizes
 }
@@ -33,7 +33,7 @@ fn start_in(draft: &Draft) -> State
 {
     let mut state = Bounded::new(ObjectState::Absent);
     for object in draft.objects() {
-        state.push(ObjectState::There(object.values));
+        state.push(ObjectState::There(object.values)).unwrap();
     }
     state
 }
@@ -63,10 +63,7 @@ impl Scheme {
     pub fn bare() -> Scheme
         ensures { scheme_of result ≡ bare_model }
     {
-        match Scheme::of(Draft::new()) {
-            Some(scheme) => scheme,
-            None => unreachable(),
-        }
+        Scheme::of(Draft::new()).unwrap()
     }
 
     // What the scheme declares.

@@ -1,63 +1,50 @@
 // The steps and the labels of moves.
-ghost use Rattle.std.specs.Prelude.{◌≡◌, ◌<◌, ◌≢◌, length, IfSome};
+ghost use Rattle.std.specs.Prelude.{◌≡◌, ◌<◌, ◌≢◌, IfSome};
 ghost use Rattle.std.specs.Option.{option_map};
 ghost use Rattle.scheme.specs.Models.{policy_of};
 ghost use Rattle.scheme.specs.Sizes.{sizes_of};
 ghost use Rattle.scheme.specs.Counts.{state_count};
 ghost use Rattle.enforcement.specs.Coded.{enforced_pair};
 ghost use Rattle.record.specs.States.{number, state_from};
-ghost use Rattle.record.specs.Numberings.{dimensions_of, pair_at};
-ghost use Rattle.record.specs.Moves.{move_of, InScheme};
-ghost use Rattle.record.specs.Systems.{object_count, policy_at, state_after, step_of, label_of};
+ghost use Rattle.record.specs.Numberings.{pair_at};
+ghost use Rattle.record.specs.Moves.{move_of};
+ghost use Rattle.record.specs.Systems.{object_count, state_after, step_of, label_of};
 ghost use Rattle.record.specs.Relation.{Steps};
 ghost use Rattle.record.specs.Schemes.{scheme_of};
+ghost use Rattle.record.specs.Uses.{sizes_in, policy_in};
 
 use super::Scheme;
+use super::uses::Use;
 use crate::moves::Move;
 use enforcement::{Pair, enforce};
 use protection::Permission;
 use scheme::entries::Policy;
 
-impl Scheme {
-    // The policy, subject and object of a move; none where there is no such move.
-    fn move_of(&self, mv: u32) -> Option<Move>
-        ensures value { result ≡ move_of (scheme_of self.now) mv }
-        ensures within { IfSome result (λ x. InScheme (scheme_of self.now) x) }
+impl<'a> Use<'a> {
+    fn policy(&self) -> &'a Policy
+        ensures { policy_of result.now ≡ policy_in self.now }
     {
-        let moves = self.moves.as_slice();
-        let at = mv as usize;
-        if at >= moves.len() {
-            return None;
-        }
-        Some(moves[at])
+        &self.scheme.draft.policies()[self.mv.policy as usize]
     }
 
-    fn policy_of(&self, mv: Move) -> &Policy
-        requires { mv.policy < length (scheme_of self.now).policies }
-        ensures { policy_of result.now ≡ policy_at (scheme_of self.now) mv.policy }
+    // The codes of the subject and the object in a state.
+    fn codes_in(&self, state: u32) -> Pair
+        ensures { result ≡ pair_at (sizes_in self.now) state self.now.mv.subject self.now.mv.object }
     {
-        &self.draft.policies()[mv.policy as usize]
-    }
-
-    // The codes of a move's subject and object in a state.
-    fn pair_at(&self, state: u32, mv: Move) -> Pair
-        requires { InScheme (scheme_of self.now) mv }
-        ensures { result ≡ pair_at (dimensions_of self.now.numbering).sizes state mv.subject mv.object }
-    {
+        let numbering = &self.scheme.numbering;
         Pair {
-            subject: self.numbering.code_at(state, mv.subject),
-            object: self.numbering.code_at(state, mv.object),
+            subject: numbering.code_at(state, self.mv.subject),
+            object: numbering.code_at(state, self.mv.object),
         }
     }
 
-    // What the policy of a move makes of two codes.
-    fn enforce_policy(&self, mv: Move, before: Pair) -> Option<Pair>
-        requires { InScheme (scheme_of self.now) mv }
-        ensures { result ≡ enforced_pair (dimensions_of self.now.numbering).sizes (policy_at (scheme_of self.now) mv.policy).predicates (policy_at (scheme_of self.now) mv.policy).actions before }
+    // What the policy makes of two codes.
+    fn enforce(&self, before: Pair) -> Option<Pair>
+        ensures { result ≡ enforced_pair (sizes_in self.now) (policy_in self.now).predicates (policy_in self.now).actions before }
     {
-        let policy = self.policy_of(mv);
+        let policy = self.policy();
         enforce(
-            self.numbering.codes(),
+            self.scheme.numbering.codes(),
             policy.predicates.as_slice(),
             policy.actions.as_slice(),
             before,
@@ -66,21 +53,32 @@ impl Scheme {
 
     // The state after a move of two different objects; none where its policy cannot be enforced. The
     // two objects concerned are read and replaced in the state's number.
-    fn apply(&self, state: u32, mv: Move) -> Option<u32>
-        requires state { state < state_count (scheme_of self.now) }
-        requires mv { InScheme (scheme_of self.now) mv }
-        requires apart { mv.subject ≢ mv.object }
-        ensures { result ≡ option_map (number (sizes_of (scheme_of self.now))) (state_after (scheme_of self.now) mv (state_from (sizes_of (scheme_of self.now)) (object_count (scheme_of self.now)) state)) }
+    fn apply(&self, state: u32) -> Option<u32>
+        requires state { state < state_count (scheme_of self.now.scheme.now) }
+        requires apart { self.now.mv.subject ≢ self.now.mv.object }
+        ensures { result ≡ option_map (number (sizes_of (scheme_of self.now.scheme.now))) (state_after (scheme_of self.now.scheme.now) self.now.mv (state_from (sizes_of (scheme_of self.now.scheme.now)) (object_count (scheme_of self.now.scheme.now)) state)) }
     {
-        let before = self.pair_at(state, mv);
-        let after = self.enforce_policy(mv, before)?;
-        let half = self
-            .numbering
-            .exchange(state, mv.subject, before.subject, after.subject);
-        Some(
-            self.numbering
-                .exchange(half, mv.object, before.object, after.object),
-        )
+        let Move {
+            subject,
+            object,
+            ..
+        } = self.mv;
+        let before = self.codes_in(state);
+        let after = self.enforce(before)?;
+        let numbering = &self.scheme.numbering;
+        let half = numbering.exchange(state, subject, before.subject, after.subject);
+        Some(numbering.exchange(half, object, before.object, after.object))
+    }
+}
+
+impl Scheme {
+    // The use that a move is; none where there is no such move.
+    fn use_of(&self, mv: u32) -> Option<Use<'_>>
+        ensures value { option_map (λ (u : Use). u.mv) result ≡ move_of (scheme_of self.now) mv }
+        ensures here { IfSome result (λ (u : Use). u.scheme.now ≡ self.now) }
+    {
+        let mv = *self.moves.as_slice().get(mv as usize)?;
+        Some(Use { scheme: self, mv })
     }
 
     fn next_state(&self, state: u32, mv: u32) -> Option<u32>
@@ -89,11 +87,11 @@ impl Scheme {
         if state >= self.numbering.states() {
             return None;
         }
-        let entry = self.move_of(mv)?;
-        if entry.subject == entry.object {
+        let entry = self.use_of(mv)?;
+        if entry.mv.subject == entry.mv.object {
             return None;
         }
-        self.apply(state, entry)
+        entry.apply(state)
     }
 
     // The state that a move leads to; none where there is no such state or move, or the move's policy
@@ -110,11 +108,11 @@ impl Scheme {
     pub fn label(&self, mv: u32) -> Option<Permission>
         ensures { result ≡ label_of (scheme_of self.now) mv }
     {
-        let entry = self.move_of(mv)?;
+        let entry = self.use_of(mv)?;
         Some(Permission {
-            subject: entry.subject as u32,
-            object: entry.object as u32,
-            right: self.policy_of(entry).right,
+            subject: entry.mv.subject,
+            object: entry.mv.object,
+            right: entry.policy().right,
         })
     }
 }

@@ -1,6 +1,6 @@
 // Whether a draft is well-formed: its objects have values that their attributes allow, and its
 // policies are for rights that it declares.
-ghost use Rattle.std.specs.Prelude.{◌≡◌, map, nat_lt};
+ghost use Rattle.std.specs.Prelude.{◌≡◌, map};
 ghost use Rattle.scheme.specs.Models.{object_of, policy_of};
 ghost use Rattle.scheme.specs.Drafts.{draft_of};
 ghost use Rattle.scheme.specs.WellFormed.{value_fits, values_fit, objects_fit, rights_fit, well_formed};
@@ -11,54 +11,35 @@ use crate::entries::{Attribute, Object, Policy};
 fn value_fits(size: u8, value: Option<u8>) -> bool
     ensures { result ≡ value_fits size value }
 {
-    match value {
-        None => true,
-        Some(value) => value < size,
-    }
+    value.is_none_or(|value| value < size)
 }
 
 // There is a value or null for each attribute, and no more.
 fn values_fit(attributes: &[Attribute], values: &[Option<u8>]) -> bool
     ensures { result ≡ values_fit (map (λ (a : Attribute). a.size) attributes.now) values.now }
 {
-    if values.len() != attributes.len() {
-        return false;
-    }
-    for (i, attribute) in attributes.iter().enumerate() {
-        if !value_fits(attribute.size, values[i]) {
-            return false;
-        }
-    }
-    true
+    values.len() == attributes.len()
+        && attributes
+            .iter()
+            .zip(values)
+            .all(|(attribute, value)| value_fits(attribute.size, *value))
 }
 
 fn objects_fit(attributes: &[Attribute], objects: &[Object]) -> bool
     ensures { result ≡ objects_fit (map (λ (a : Attribute). a.size) attributes.now) (map object_of objects.now) }
 {
-    for object in objects {
-        if !values_fit(attributes, object.values.as_slice()) {
-            return false;
-        }
-    }
-    true
-}
-
-fn right_fits(rights: usize, right: u32) -> bool
-    ensures { result ≡ nat_lt right rights }
-{
-    (right as usize) < rights
+    objects
+        .iter()
+        .all(|object| values_fit(attributes, object.values.as_slice()))
 }
 
 // Each policy is for one of so many rights.
 fn rights_fit(rights: usize, policies: &[Policy]) -> bool
     ensures { result ≡ rights_fit rights (map policy_of policies.now) }
 {
-    for policy in policies {
-        if !right_fits(rights, policy.right) {
-            return false;
-        }
-    }
-    true
+    policies
+        .iter()
+        .all(|policy| (policy.right as usize) < rights)
 }
 
 impl Draft {

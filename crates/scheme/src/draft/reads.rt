@@ -9,7 +9,6 @@ use super::Draft;
 use crate::entries::{Attribute, Object, Policy, Query};
 use crate::kind::Kind;
 use crate::names::{Name, find};
-use crate::policies::Policies;
 use bounded::Bounded;
 
 impl Draft {
@@ -25,7 +24,7 @@ impl Draft {
                 name,
                 values: Bounded::new(None),
             }),
-            policies: Policies::new(),
+            policies: Bounded::new(Policy::without_clauses(name, 0)),
             queries: Bounded::new(Query {
                 subject: 0,
                 object: 0,
@@ -78,8 +77,14 @@ impl Draft {
             Kind::Right => self.rights.has_room(),
             Kind::Object => self.objects.has_room(),
             Kind::Policy => self.policies.has_room(),
-            Kind::If => self.policies.has_predicate_room(),
-            Kind::Do => self.policies.has_action_room(),
+            Kind::If => self
+                .policies()
+                .last()
+                .is_some_and(|policy| policy.predicates.has_room()),
+            Kind::Do => self
+                .policies()
+                .last()
+                .is_some_and(|policy| policy.actions.has_room()),
             Kind::Query => self.queries.has_room(),
         }
     }

@@ -1,6 +1,6 @@
 // The count of states, cut off above the greatest count that is accepted: the sizes of a text can
 // make a count that no machine number holds.
-ghost use Rattle.std.specs.Prelude.{◌≡◌, ◌*◌, ◌≤◌, min};
+ghost use Rattle.std.specs.Prelude.{◌≡◌, ◌*◌, min};
 ghost use Rattle.scheme.specs.Counts.{combinations, state_count};
 ghost use Rattle.scheme.specs.Drafts.{draft_of};
 
@@ -12,31 +12,26 @@ const CAP: u64 = 1_048_577;
 
 // A product, or CAP where it is greater.
 fn mul_capped(a: u64, b: u64) -> u64
-    requires a { a ≤ 1048577 }
-    requires b { b ≤ 1048578 }
     ensures { result ≡ min (a * b) 1048577 }
 {
-    (a * b).min(CAP)
+    a.saturating_mul(b).min(CAP)
 }
 
 // The combinations of attribute values and null that one object can have.
 fn combinations_capped(draft: &Draft) -> u64
     ensures { result ≡ min (combinations (draft_of draft.now).attributes) 1048577 }
 {
-    let mut product = 1;
-    for attribute in draft.attributes() {
-        product = mul_capped(product, attribute.size as u64 + 1);
-    }
-    product
+    draft.attributes().iter().fold(1, |product, attribute| {
+        mul_capped(product, attribute.size as u64 + 1)
+    })
 }
 
 pub(crate) fn states_capped(draft: &Draft) -> u64
     ensures { result ≡ min (state_count (draft_of draft.now)) 1048577 }
 {
     let codes = combinations_capped(draft) + 1;
-    let mut states = 1;
-    for _object in 0..draft.objects().len() {
-        states = mul_capped(states, codes);
-    }
-    states
+    draft
+        .objects()
+        .iter()
+        .fold(1, |states, _| mul_capped(states, codes))
 }

@@ -1,9 +1,10 @@
 // Number, line and place of each fault of the words.
-ghost use Rattle.std.specs.Prelude.{◌≡◌};
-ghost use Rattle.words.specs.Faults.{at as report_at, word_report};
+ghost use Rattle.std.specs.Prelude.{◌≡◌, Some};
+ghost use Rattle.words.specs.Faults.{at as report_at, word_report, report_text};
 
 use super::{Report, WordFault};
 use crate::position::Spot;
+use std::fmt;
 
 impl Report {
     pub fn at(number: u32, spot: Spot) -> Report
@@ -14,6 +15,14 @@ impl Report {
             line: spot.line,
             place: spot.place,
         }
+    }
+}
+
+impl fmt::Display for Report {
+    ghost output = { λ r. Some (report_text r) };
+
+    fn fmt<W: fmt::Write>(&self, f: &mut fmt::Formatter<W>) -> fmt::Result {
+        write!(f, "{} {} {}", self.number, self.line, self.place)
     }
 }
 

@@ -7,8 +7,8 @@ use Rattle.render.proofs.lines.put_next.Goals as goal
 pub returns-in_err-put : goal.returns-in_err-put
 returns-in_err-put c =
     at_exit _ _ _ _ c.from_residual.ensures.0
-    (short_first _ _ (32 ∷ []) (word_of c.args.word) c.in_err-put.ensures)
+    (short_first _ _ (32 ∷ []) (word_of c.args.word.now) c.in_err-put.ensures)
 
 pub returns : goal.returns
 returns c =
-    appended_then _ _ _ _ (32 ∷ []) (word_of c.args.word) c.in_ok-put.ensures c.put_word.ensures
+    appended_then _ _ _ _ (32 ∷ []) (word_of c.args.word.now) c.in_ok-put.ensures c.put_word.ensures

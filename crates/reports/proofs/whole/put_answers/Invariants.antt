@@ -1,5 +1,5 @@
--- The queries so far; the tables keep their size.
-use Rattle.std.proofs.Common.{◌≡◌, length, take}
+-- The queries so far.
+use Rattle.std.proofs.Common.{take}
 use Rattle.std.specs.List.{flat_map}
 use Rattle.scheme.specs.Drafts.{draft_of}
 use Rattle.protection.specs.Systems.{system_of}
@@ -11,4 +11,3 @@ abbrev pub invariant-loop-query : goal.invariant-loop-query
 invariant-loop-query g l =
     let system = system_of (g.S.Walk.model l.system) (g.S.System.labels l.system) in
     Grown l.initial.out l.out (flat_map (answer_lines (draft_of l.draft) system) (take l.query-index l.queries))
-    × (length l.marks ≡ 4096) × (length l.found ≡ 4096) × (length l.witness ≡ 4096)

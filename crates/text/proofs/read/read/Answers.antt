@@ -1,9 +1,5 @@
 use Rattle.text.proofs.Whole.{reading_is_lawful}
 use Rattle.text.proofs.read.read.Goals as goal
 
-pub returns : goal.returns
-returns c = record {
-  result = c.read_text.ensures.result;
-  kept = c.read_text.ensures.kept;
-  lawful = reading_is_lawful c.args.text.now _ c.read_text.ensures.result;
-}
+pub returns-clause-lawful : goal.returns-clause-lawful
+returns-clause-lawful c = reading_is_lawful c.args.text.now _ c.read_text.ensures.result

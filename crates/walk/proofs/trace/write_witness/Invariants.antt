@@ -6,9 +6,5 @@ use Rattle.walk.proofs.trace.write_witness.Given as goal
 abbrev pub invariant-loop-left : goal.invariant-loop-left
 invariant-loop-left l =
     (l.at ≤ l.place)
-    × (l.left ≤ l.at)
     × (l.left ≡ length (moves_to l.found l.at))
     × (moves_to l.found l.at ++ drop l.left l.witness ≡ moves_to l.found l.place ++ drop l.initial.left l.initial.witness)
-
-abbrev pub decreases-loop-left : goal.decreases-loop-left
-decreases-loop-left l = l.left

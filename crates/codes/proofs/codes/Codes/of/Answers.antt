@@ -1,35 +1,24 @@
-use Rattle.std.proofs.Common.{◌≡◌, ℕ, zero, suc, ◌+◌, List, [], ◌∷◌, get_or, sym, refl, ap, ◌∙◌, arith}
-use Rattle.std.proofs.lemmas.Bool.{lt-leb, cond-false}
+use Rattle.std.proofs.Common.{◌≤◌, length, ap, refl, arith}
 use Rattle.bounded.specs.Items.{items}
 use Rattle.bounded.proofs.Lengths.{length_items}
-use Rattle.scheme.specs.Sizes.{size_combinations, size_states}
-use Rattle.codes.specs.Weights.{weight, Weights}
-use Rattle.codes.proofs.Weighing.{weight_all}
+use Rattle.codes.proofs.Making.{next_product_fits, product_fits, next_digit}
+use Rattle.codes.proofs.codes.Codes.of.Goals.{In-loop-size}
 use Rattle.codes.proofs.codes.Codes.of.Goals as goal
 
-pub returns-then-radix-gt-MAX_CODES : goal.returns-then-radix-gt-MAX_CODES
-returns-then-radix-gt-MAX_CODES c =
-    let ks = items c.args.sizes in
-    let all : c.weight_of-radix.result ≡ size_combinations ks =
-    c.weight_of-radix.ensures.value ∙ ap (λ l. weight l 4) c.as_slice-list.ensures ∙ weight_all ks 4 (length_items 4 c.args.sizes) in
-    sym (cond-false _ _ _ (lt-leb (size_states ks) 1048576 (omega arith)))
+few : (c : In-loop-size) → length c.as_slice-size-items.result.now ≤ 4
+few c = omega (arith, ap length c.as_slice-size-items.ensures, length_items 4 c.args.sizes)
 
-four_weights : (ks : List ℕ) (a b d : ℕ) → a ≡ weight ks 1 → b ≡ weight ks 2 → d ≡ weight ks 3 → Weights ks (1 ∷ (a ∷ (b ∷ (d ∷ []))))
-four_weights ks a b d p q r zero h = refl
-four_weights ks a b d p q r (suc zero) h = p
-four_weights ks a b d p q r (suc (suc zero)) h = q
-four_weights ks a b d p q r (suc (suc (suc zero))) h = r
-four_weights ks a b d p q r (suc (suc (suc (suc n)))) h = absurd (omega arith)
+pub overflow_cast-weight : goal.overflow_cast-weight
+overflow_cast-weight c =
+    omega (arith, product_fits c.as_slice-size-items.result.now c.loop-size.size-index c.loop-size.weight c.loop-size-test.true (few (goal.at.overflow_cast-weight c).In-loop-size) (λ i. omega (arith, c.type_inv.size-items i)) c.loop-size.invariant.product)
 
-pub invariant_of-result : goal.invariant_of-result
-invariant_of-result c =
-    let ks = items c.args.sizes in
-    let at : (w : ℕ) (i : ℕ) → w ≡ weight c.as_slice-list.result.now i → w ≡ weight ks i =
-    λ w i e. e ∙ ap (λ l. weight l i) c.as_slice-list.ensures in
-    record {
-      bytes = λ a. omega (arith, c.weight_of-radix.ensures.bytes a, ap (λ l. get_or l a 0) c.as_slice-list.ensures);
-      four = refl;
-      weighed = four_weights ks _ _ _ (at _ 1 c.weight_of.ensures.value) (at _ 2 c.weight_of-2.ensures.value) (at _ 3 c.weight_of-3.ensures.value);
-      counted = ap (λ n. 1 + n) (at _ 4 c.weight_of-radix.ensures.value ∙ weight_all ks 4 (length_items 4 c.args.sizes));
-      few = omega arith;
-    }
+pub overflow_mul-weight : goal.overflow_mul-weight
+overflow_mul-weight c =
+    omega (arith, next_product_fits c.as_slice-size-items.result.now c.loop-size.size-index c.loop-size.weight c.loop-size-test.true (few (goal.at.overflow_mul-weight c).In-loop-size) (λ i. omega (arith, c.type_inv.size-items i)) c.loop-size.invariant.product)
+
+pub loop-size-preserved : goal.loop-size-preserved
+loop-size-preserved c =
+    let before = c.loop-size.invariant in
+    let next = next_digit c.as_slice-size-items.result.now c.loop-size.size-index c.loop-size.weight c.loop-size-test.true (few (goal.at.loop-size-preserved c).In-loop-size) (λ i. omega (arith, c.type_inv.size-items i)) before.product
+    (items c.loop-size.digits) (items c.push.new.self) _ _ before.sizes refl refl c.push.ensures.room c.push.ensures.after before.weighed in
+    record { sizes = next.0; weighed = next.1; product = next.2; low = next.3 }

@@ -1,59 +1,54 @@
-use Rattle.std.proofs.Common.{◌≡◌, ◌+◌, ◌*◌, ◌<◌, length, get_or, drop, sym, ap, ◌∙◌, arith}
-use Rattle.bounded.proofs.Lengths.{length_items}
+use Rattle.std.proofs.Common.{◌≡◌, ◌+◌, ◌*◌, ◌<◌, ℕ, List, Option, length, get_or, drop, None, sym, refl, ap, ◌∙◌, arith}
+use Rattle.std.proofs.lemmas.List.{length-map, length_push}
+use Rattle.std.proofs.lemmas.Slice.Zip.{zip_turn}
+use Rattle.bounded.specs.Items.{items}
 use Rattle.codes.specs.Weights.{weight, summed}
+use Rattle.codes.specs.declared.digit.Digit.{Digit}
 use Rattle.codes.specs.Meanings.{sizes_in}
 use Rattle.codes.proofs.Weighing.{weight_le}
-use Rattle.codes.proofs.Summing.{summed_uneven, summed_unfit, summed_more, summed_all}
+use Rattle.codes.proofs.Summing.{summed_uneven, digit_unfit, digit_summed}
+use Rattle.codes.proofs.codes.Codes.weigh.Goals.{After-fits, After-part_of}
 use Rattle.codes.proofs.codes.Codes.weigh.Goals as goal
 
-pub returns-then-values-as_slice : goal.returns-then-values-as_slice
-returns-then-values-as_slice c =
-    record {
-      value = summed_uneven 0 1 (sizes_in c.args.self.now) c.args.values.now (λ e. c.if-values-as_slice.true (e ∙ sym (ap length c.as_slice.ensures)));
-      small = tt;
-    }
+pub returns-then-values-digits-clause-value : goal.returns-then-values-digits-clause-value
+returns-then-values-digits-clause-value c =
+    summed_uneven 0 1 (sizes_in c.args.self.now) c.args.values.now (λ e. c.if-values-digits.true (e ∙ length-map (items c.args.self.now.digits) (λ (x : Digit). x.size) ∙ sym (ap length c.as_slice-digits.ensures)))
 
-pub returns-then-not-fits : goal.returns-then-not-fits
-returns-then-not-fits c =
-    let ks = sizes_in c.args.self.now in
-    let even : length c.args.values.now ≡ length ks = c.if-values-as_slice.false ∙ ap length c.as_slice.ensures in
-    record {
-      value = summed_unfit ks c.args.values.now c.loop-at.at c.loop-at.sum even (omega arith) (sym c.if-not-fits.ensures) ∙ c.loop-at.invariant.0;
-      small = tt;
-    }
+-- the digit and the value of this turn stand at the same place
+record Turn (ds : List Digit) (vs : List (Option ℕ)) (n : ℕ) (d : Digit) (v : Option ℕ) : Type 0 where
+  even : length vs ≡ length ds
+  inside : n < length ds
+  is_digit : d ≡ get_or ds n d
+  is_value : v ≡ get_or vs n None
 
-more : (c : goal.After-sum-1)
-    → (summed (c.loop-at.sum + c.part_of.result * get_or c.args.self.now.weights c.loop-at.at 0) (weight (sizes_in c.args.self.now) (c.loop-at.at + 1)) (drop (c.loop-at.at + 1) (sizes_in c.args.self.now)) (drop (c.loop-at.at + 1) c.args.values.now)
-    ≡ summed c.loop-at.sum (weight (sizes_in c.args.self.now) c.loop-at.at) (drop c.loop-at.at (sizes_in c.args.self.now)) (drop c.loop-at.at c.args.values.now))
-    × (c.loop-at.sum + c.part_of.result * get_or c.args.self.now.weights c.loop-at.at 0 < weight (sizes_in c.args.self.now) (c.loop-at.at + 1))
-more c =
+turn : (c : After-fits) → Turn (items c.args.self.now.digits) c.args.values.now (length c.loop-digit.yielded) c.in-Some.digit.now c.in-Some.value.now
+turn c =
+    let at = zip_turn (items c.args.self.now.digits) c.args.values.now c.loop-digit.yielded c.into_iter-digit-iterator.result c.loop-digit.digit-iterator c.next.new.self c.next.result (cc) (cc) c.loop-digit.yielded_by (c.in-Some.digit, c.in-Some.value) c.in-Some.is c.next.ensures.steps in
+    record { even = c.if-values-digits.false ∙ ap length c.as_slice-digits.ensures; inside = at.0; is_digit = at.2 c.in-Some.digit.now; is_value = at.3 None }
+
+pub returns-then-not-fits-clause-value : goal.returns-then-not-fits-clause-value
+returns-then-not-fits-clause-value c =
+    let t = turn (goal.at.returns-then-not-fits-clause-value c).After-fits in
     let self = c.args.self.now in
-    let ks = sizes_in self in
-    let at = c.loop-at.at in
-    let even : length c.args.values.now ≡ length ks = c.if-values-as_slice.false ∙ ap length c.as_slice.ensures in
-    let four : at < 4 = omega (arith, length_items 4 self.sizes) in
-    summed_more ks c.args.values.now at c.loop-at.sum even (omega arith) _ _ c.part_of.ensures (self.weighed at four) (sym c.if-not-fits.ensures) c.loop-at.invariant.1
+    digit_unfit (items self.digits) c.args.values.now self.weighed t.even (length c.loop-digit.yielded) c.loop-digit.sum c.in-Some.digit.now c.in-Some.value.now t.inside t.is_digit t.is_value c.if-not-fits.ensures
+    ∙ c.loop-digit.invariant.total
 
-small : (c : goal.After-sum-1) → c.loop-at.sum + c.part_of.result * get_or c.args.self.now.weights c.loop-at.at 0 < 1048576
-small c =
+more : (c : After-part_of) (t : Turn (items c.args.self.now.digits) c.args.values.now (length c.loop-digit.yielded) c.in-Some.digit.now c.in-Some.value.now) (next : ℕ) → next ≡ length c.loop-digit.yielded + 1
+    → (summed (c.loop-digit.sum + c.part_of.result * c.in-Some.digit.now.weight) (weight (sizes_in c.args.self.now) next) (drop next (sizes_in c.args.self.now)) (drop next c.args.values.now) ≡ summed 0 1 (sizes_in c.args.self.now) c.args.values.now)
+    × (c.loop-digit.sum + c.part_of.result * c.in-Some.digit.now.weight < weight (sizes_in c.args.self.now) next)
+    × (c.loop-digit.sum + c.part_of.result * c.in-Some.digit.now.weight < 1048576)
+more c t next is_next =
     let self = c.args.self.now in
-    omega (arith, (more c).1, weight_le (sizes_in self) (c.loop-at.at + 1), self.counted, self.few)
+    let step = digit_summed (items self.digits) c.args.values.now self.weighed t.even (length c.loop-digit.yielded) c.loop-digit.sum c.in-Some.digit.now c.in-Some.value.now t.inside t.is_digit t.is_value c.part_of.result next c.part_of.ensures c.if-not-fits.ensures c.loop-digit.invariant.low is_next in
+    (step.0 ∙ c.loop-digit.invariant.total, step.1, omega (arith, step.1, weight_le (sizes_in self) next, self.counted, self.few))
 
 pub overflow_mul-sum : goal.overflow_mul-sum
-overflow_mul-sum c = omega (arith, small c)
+overflow_mul-sum c = omega (arith, (more c (turn (goal.at.overflow_mul-sum c).After-fits) _ refl).2)
 
 pub overflow_add-sum : goal.overflow_add-sum
-overflow_add-sum c = omega (arith, small c)
+overflow_add-sum c = omega (arith, (more c (turn (goal.at.overflow_add-sum c).After-fits) _ refl).2)
 
-pub loop-at-preserved : goal.loop-at-preserved
-loop-at-preserved c = ((more c).0 ∙ c.loop-at.invariant.0, (more c).1)
-
-pub returns : goal.returns
-returns c =
-    let self = c.args.self.now in
-    let ks = sizes_in self in
-    let even : length c.args.values.now ≡ length ks = c.if-values-as_slice.false ∙ ap length c.as_slice.ensures in
-    record {
-      value = summed_all ks c.args.values.now c.loop-at.at c.loop-at.sum (omega arith) (omega arith) ∙ c.loop-at.invariant.0;
-      small = omega (arith, c.loop-at.invariant.1, weight_le ks c.loop-at.at, self.counted, self.few);
-    }
+pub loop-digit-preserved : goal.loop-digit-preserved
+loop-digit-preserved c =
+    let next = more c (turn (goal.at.loop-digit-preserved c).After-fits) _ (length_push c.loop-digit.yielded (c.in-Some.digit, c.in-Some.value)) in
+    record { total = next.0; low = next.1 }

@@ -6,5 +6,4 @@ use Rattle.record.proofs.numbering.Numbering.code_at.Goals as goal
 
 pub nonzero_div-result : goal.nonzero_div-result
 nonzero_div-result c =
-    let self = c.args.self.now in
-    omega (arith, self.placed c.args.object c.requires, pow_pos (size_states (dimensions_of self).sizes) c.args.object (omega arith))
+    omega (arith, pow_pos (size_states (dimensions_of c.args.self.now).sizes) c.args.object (omega arith))

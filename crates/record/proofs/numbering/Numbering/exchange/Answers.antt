@@ -1,20 +1,17 @@
-use Rattle.std.proofs.Common.{get_or, arith}
+use Rattle.std.proofs.Common.{arith}
 use Rattle.record.specs.Numberings.{dimensions_of}
 use Rattle.record.proofs.Exchanging.{Exchanged, exchanged}
 use Rattle.record.proofs.numbering.Numbering.exchange.Goals as goal
 
-change : (c : goal.After-place-1)
-    → Exchanged (dimensions_of c.args.self.now).sizes (dimensions_of c.args.self.now).objects c.args.state c.args.object c.args.old c.args.new (get_or c.args.self.now.places c.args.object 0)
+change : (c : goal.After-place-place)
+    → Exchanged (dimensions_of c.args.self.now).sizes (dimensions_of c.args.self.now).objects c.args.state c.args.object c.args.old c.args.new c.place-place.result
 change c =
-    let self = c.args.self.now in
-    exchanged (dimensions_of self).sizes (dimensions_of self).objects c.args.state c.args.object c.args.old c.args.new _
-    c.requires.state c.requires.object c.requires.old c.requires.new (self.placed c.args.object c.requires.object)
+    let d = dimensions_of c.args.self.now in
+    exchanged d.sizes d.objects c.args.state c.args.object c.args.old c.args.new _
+    c.requires.state c.requires.object c.requires.old c.requires.new c.place-place.ensures
 
 pub overflow_mul-result : goal.overflow_mul-result
 overflow_mul-result c = omega (arith, (change c).within)
-
-pub overflow_sub-result : goal.overflow_sub-result
-overflow_sub-result c = (change c).within
 
 pub overflow_mul-result-2 : goal.overflow_mul-result-2
 overflow_mul-result-2 c = omega (arith, (change c).below, c.args.self.now.counted, c.args.self.now.few)

@@ -1,42 +1,67 @@
-use Rattle.std.proofs.Common.{◌+◌, ◌*◌, ◌<◌, get_or, refl, ◌∙◌, arith}
-use native.Mathlib.Nat.{pow-zero}
+use Rattle.std.proofs.Common.{◌≡◌, ℕ, ◌+◌, ◌*◌, ◌^◌, ◌<◌, cond, List, map, length, get_or, drop, Some, None, ◌∙◌, arith, rules}
+use Rattle.std.proofs.lemmas.List.{length_push}
+use Rattle.std.proofs.lemmas.Slice.Zip.{zip_turn, zip_end}
+use Rattle.bounded.specs.Items.{items}
 use Rattle.scheme.specs.Sizes.{size_states}
+use Rattle.codes.specs.declared.object.ObjectState.{ObjectState}
 use Rattle.codes.specs.Meanings.{object_of}
-use Rattle.record.specs.Numberings.{dimensions_of}
+use Rattle.codes.specs.Objects.{object_fits}
+use Rattle.codes.specs.Codes.{code}
+use Rattle.record.specs.declared.numbering.Numbering.{Numbering}
+use Rattle.record.specs.Numberings.{dimensions_of, summed_from}
 use Rattle.record.proofs.Powers.{pow_le}
-use Rattle.record.proofs.Turns.{Summed, sum_unfit, sum_more, sum_all}
+use Rattle.record.proofs.Turns.{sum_unfit, sum_more, sum_all}
 use Rattle.record.proofs.numbering.Numbering.sum_codes.Goals as goal
-
-pub loop-at-init : goal.loop-at-init
-loop-at-init c = (refl, omega (arith, pow-zero (size_states (dimensions_of c.args.self.now).sizes)))
 
 pub returns-in_err-code : goal.returns-in_err-code
 returns-in_err-code c =
+    let turn = zip_turn c.args.objects.now (items c.args.self.now.places) c.loop-object.yielded c.into_iter-object-iterator.result c.loop-object.object-iterator c.next.new.self c.next.result (search rules) (search rules) c.loop-object.yielded_by
+    (c.in-Some.object, c.in-Some.place) c.in-Some.is c.next.ensures.steps in
     c.from_residual.ensures
-    ∙ sum_unfit object_of (dimensions_of c.args.self.now).sizes c.args.objects.now c.loop-at.at c.loop-at.sum c.index-objects-at.result c.loop-at-test.true c.index-objects-at.is c.in_err-code.ensures
-    ∙ c.loop-at.invariant.0
+    ∙ sum_unfit object_of (dimensions_of c.args.self.now).sizes c.args.objects.now (length c.loop-object.yielded) c.loop-object.sum c.in-Some.object.now turn.0 (turn.2 _) c.in_err-code.ensures
+    ∙ c.loop-object.invariant.left
 
-more : (c : goal.After-sum-1)
-    → Summed object_of (dimensions_of c.args.self.now).sizes c.args.objects.now c.loop-at.at c.loop-at.sum c.index-objects-at.result c.loop-at-test.true c.index-objects-at.is c.in_ok-code.code (get_or c.args.self.now.places c.loop-at.at 0)
-more c =
-    sum_more object_of (dimensions_of c.args.self.now).sizes c.args.objects.now c.loop-at.at c.loop-at.sum c.index-objects-at.result c.loop-at-test.true c.index-objects-at.is
-    c.in_ok-code.code (get_or c.args.self.now.places c.loop-at.at 0) c.in_ok-code.ensures (c.args.self.now.placed c.loop-at.at (omega arith)) c.loop-at.invariant.1
+-- one object more
+record Turn (self : Numbering) (objects : List ObjectState) (n sum more : ℕ) : Type 0 where
+  left : summed_from (sum + more) (n + 1) (dimensions_of self).sizes (map object_of (drop (n + 1) objects)) ≡ summed_from sum n (dimensions_of self).sizes (map object_of (drop n objects))
+  below : sum + more < size_states (dimensions_of self).sizes ^ (n + 1)
+  small : sum + more < 1048576
 
-small : (c : goal.After-sum-1) → c.loop-at.sum + c.in_ok-code.code * get_or c.args.self.now.places c.loop-at.at 0 < 1048576
-small c =
-    let self = c.args.self.now in
-    let b = size_states (dimensions_of self).sizes in
-    omega (arith, (more c).below, pow_le b (c.loop-at.at + 1) self.objects (omega arith) (omega arith), self.counted, self.few)
+turn : (self : Numbering) (objects : List ObjectState) (n sum : ℕ) (x : ObjectState) (c p : ℕ)
+    → (n < length objects) × (n < length (items self.places)) × ((d : ObjectState) → x ≡ get_or objects n d) × ((d : ℕ) → p ≡ get_or (items self.places) n d)
+    → Some c ≡ cond (object_fits (dimensions_of self).sizes (object_of x)) (Some (code (dimensions_of self).sizes (object_of x))) None
+    → sum < size_states (dimensions_of self).sizes ^ n → Turn self objects n sum (c * p)
+turn self objects n sum x c p at is-code low =
+    let ks = (dimensions_of self).sizes in
+    let m = sum_more object_of ks objects n sum x at.0 (at.2 x) c p is-code (at.3 0 ∙ self.placed n at.1) low in
+    record {
+      left = m.same;
+      below = m.below;
+      small = omega (arith, m.below, pow_le (size_states ks) (n + 1) (dimensions_of self).objects (omega arith) (omega (arith, at.1)), self.counted, self.few);
+    }
 
 pub overflow_mul-sum : goal.overflow_mul-sum
-overflow_mul-sum c = omega (arith, small c)
+overflow_mul-sum c =
+    let at = zip_turn c.args.objects.now (items c.args.self.now.places) c.loop-object.yielded c.into_iter-object-iterator.result c.loop-object.object-iterator c.next.new.self c.next.result (search rules) (search rules) c.loop-object.yielded_by
+    (c.in-Some.object, c.in-Some.place) c.in-Some.is c.next.ensures.steps in
+    omega (arith, (turn c.args.self.now c.args.objects.now _ c.loop-object.sum _ _ _ at c.in_ok-code.ensures c.loop-object.invariant.below).small)
 
 pub overflow_add-sum : goal.overflow_add-sum
-overflow_add-sum c = omega (arith, small c)
+overflow_add-sum c =
+    let at = zip_turn c.args.objects.now (items c.args.self.now.places) c.loop-object.yielded c.into_iter-object-iterator.result c.loop-object.object-iterator c.next.new.self c.next.result (search rules) (search rules) c.loop-object.yielded_by
+    (c.in-Some.object, c.in-Some.place) c.in-Some.is c.next.ensures.steps in
+    omega (arith, (turn c.args.self.now c.args.objects.now _ c.loop-object.sum _ _ _ at c.in_ok-code.ensures c.loop-object.invariant.below).small)
 
-pub loop-at-preserved : goal.loop-at-preserved
-loop-at-preserved c = ((more c).same ∙ c.loop-at.invariant.0, (more c).below)
+pub loop-object-preserved : goal.loop-object-preserved
+loop-object-preserved c =
+    let at = zip_turn c.args.objects.now (items c.args.self.now.places) c.loop-object.yielded c.into_iter-object-iterator.result c.loop-object.object-iterator c.next.new.self c.next.result (search rules) (search rules) c.loop-object.yielded_by
+    (c.in-Some.object, c.in-Some.place) c.in-Some.is c.next.ensures.steps in
+    let t = turn c.args.self.now c.args.objects.now _ c.loop-object.sum _ _ _ at c.in_ok-code.ensures c.loop-object.invariant.below in
+    simp length_push (record { left = t.left ∙ c.loop-object.invariant.left; below = t.below })
 
 pub returns : goal.returns
 returns c =
-    sum_all object_of (dimensions_of c.args.self.now).sizes c.args.objects.now c.loop-at.at c.loop-at.sum c.loop-at-test.false ∙ c.loop-at.invariant.0
+    let all = zip_end c.args.objects.now (items c.args.self.now.places) c.loop-object.yielded c.into_iter-object-iterator.result c.loop-object.object-iterator c.next.new.self c.next.result (search rules) (search rules) c.loop-object.yielded_by
+    c.in-None.is c.next.ensures.steps in
+    sum_all object_of (dimensions_of c.args.self.now).sizes c.args.objects.now (length c.loop-object.yielded) c.loop-object.sum (omega (arith, all, c.requires))
+    ∙ c.loop-object.invariant.left

@@ -1,11 +1,14 @@
-use Rattle.std.proofs.Common.{◌≡◌, ◌^◌, ◌<◌, map, drop}
+use Rattle.std.proofs.Common.{◌≡◌, ◌^◌, ◌<◌, length, map, drop}
 use Rattle.scheme.specs.Sizes.{size_states}
 use Rattle.codes.specs.Meanings.{object_of}
 use Rattle.record.specs.Numberings.{dimensions_of, summed_from}
 use Rattle.record.proofs.numbering.Numbering.sum_codes.Given as goal
 
 -- the sum so far, and what is left
-abbrev pub invariant-loop-at : goal.invariant-loop-at
-invariant-loop-at l =
-    (summed_from l.sum l.at (dimensions_of l.self).sizes (map object_of (drop l.at l.objects)) ≡ summed_from 0 0 (dimensions_of l.self).sizes (map object_of l.objects))
-    × (l.sum < size_states (dimensions_of l.self).sizes ^ l.at)
+abbrev pub invariant-loop-object : goal.invariant-loop-object
+invariant-loop-object l =
+    let ks = (dimensions_of l.self).sizes in
+    record {
+      left : summed_from l.sum (length l.yielded) ks (map object_of (drop (length l.yielded) l.objects)) ≡ summed_from 0 0 ks (map object_of l.objects);
+      below : l.sum < size_states ks ^ length l.yielded;
+    }

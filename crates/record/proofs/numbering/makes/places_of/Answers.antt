@@ -1,25 +1,28 @@
-use Rattle.std.proofs.Common.{◌≡◌, ◌+◌, ◌^◌, ◌<◌, ◌≢◌, length, get_or, set, refl, ◌∙◌, arith, below_more}
-use Rattle.std.proofs.lemmas.List.{get_or-set_same, get_or-set_other, length-set}
-use Rattle.record.proofs.Powers.{pow_more, pow_none, pow_le}
+use Rattle.std.proofs.Common.{◌≡◌, ◌+◌, ◌^◌, ◌<◌, [], ◌∷◌, ◌++◌, length, get_or, ap, ◌∙◌, arith, below_more}
+use Rattle.std.proofs.lemmas.List.{get_or_append_left, get_or_push}
+use Rattle.bounded.specs.Items.{items}
+use Rattle.bounded.proofs.Pushes.{pushed, length_pushed}
+use Rattle.record.proofs.Powers.{pow_le}
 use Rattle.record.proofs.numbering.makes.places_of.Goals as goal
 
-pub loop-at-init : goal.loop-at-init
-loop-at-init c = (λ i h. absurd (omega arith), pow_none c.args.radix, refl)
+pub pow-requires : goal.pow-requires
+pow-requires c =
+    omega (arith, pow_le c.args.radix c.loop-object.object c.args.objects c.requires.positive (omega arith), c.requires.few)
 
-pub overflow_mul-place : goal.overflow_mul-place
-overflow_mul-place c =
+pub loop-object-preserved : goal.loop-object-preserved
+loop-object-preserved c =
     let b = c.args.radix in
-    let at = c.loop-at.at in
-    omega (arith, pow_more b at c.loop-at.place c.loop-at.invariant.1, pow_le b (at + 1) c.args.objects c.requires.positive (omega arith), c.requires.few)
-
-pub loop-at-preserved : goal.loop-at-preserved
-loop-at-preserved c =
-    let b = c.args.radix in
-    let at = c.loop-at.at in
-    let here : at < length c.loop-at.places = omega (arith, c.loop-at.invariant.2) in (
-      below_more (λ i. get_or (set c.loop-at.places at c.loop-at.place) i 0 ≡ b ^ i) at
-          (λ i h. let ne : i ≢ at = omega arith in get_or-set_other c.loop-at.places at i c.loop-at.place 0 ne ∙ c.loop-at.invariant.0 i h)
-          (get_or-set_same c.loop-at.places at c.loop-at.place 0 here ∙ c.loop-at.invariant.1),
-      pow_more b at c.loop-at.place c.loop-at.invariant.1,
-      length-set c.loop-at.places at c.loop-at.place ∙ c.loop-at.invariant.2,
-    )
+    let i = c.loop-object.object in
+    let before = items c.loop-object.places in
+    let after = items c.push.new.self in
+    let count = c.loop-object.invariant.count in
+    let free : length before < 8 = omega (arith, count, c.requires.fits) in
+    let grown : after ≡ before ++ c.pow.result ∷ [] = pushed before after c.pow.result 8 _ free c.push.ensures.room c.push.ensures.after in
+    let long : length after ≡ length before + 1 = length_pushed before after c.pow.result 8 _ free c.push.ensures.room c.push.ensures.after in
+    record {
+      places = λ k h.
+          below_more (λ k. get_or after k 0 ≡ b ^ k) i
+          (λ k l. ap (λ t. get_or t k 0) grown ∙ get_or_append_left before (c.pow.result ∷ []) 0 k (omega arith) ∙ c.loop-object.invariant.places k (omega arith))
+          (ap (λ t. get_or t i 0) grown ∙ get_or_push before c.pow.result 0 i count ∙ c.pow.ensures) k (omega (arith, h, long, count));
+      count = omega (arith, long, count);
+    }

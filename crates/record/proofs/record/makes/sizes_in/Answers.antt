@@ -1,17 +1,9 @@
 use Rattle.std.proofs.Common.{map, sym, ap, ◌∙◌}
 use Rattle.std.proofs.lemmas.Simd.{map-map}
 use Rattle.std.proofs.lemmas.List.{take_all}
-use Rattle.bounded.specs.Items.{items}
-use Rattle.bounded.proofs.Pushes.{collected_more}
 use Rattle.scheme.specs.declared.entries.Attribute.{Attribute}
 use Rattle.scheme.specs.Models.{AttributeModel, attribute_of}
 use Rattle.record.proofs.record.makes.sizes_in.Goals as goal
-
-pub loop-attribute-preserved : goal.loop-attribute-preserved
-loop-attribute-preserved c =
-    collected_more (λ (a : Attribute). a.size) c.attributes-attribute-items.result.now c.loop-attribute.attribute-index 4
-    (items c.loop-attribute.sizes) (items c.push.new.self) c.attribute-item.result c.push.result
-    c.loop-attribute.invariant c.loop-attribute-test.true c.attributes-attribute-items.ensures.few c.attribute-item.is c.push.ensures.room c.push.ensures.after
 
 pub returns : goal.returns
 returns c =

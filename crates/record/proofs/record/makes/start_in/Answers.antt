@@ -1,20 +1,12 @@
 use Rattle.std.proofs.Common.{map, sym, ap, ◌∙◌}
 use Rattle.std.proofs.lemmas.Simd.{map-map}
 use Rattle.std.proofs.lemmas.List.{take_all}
-use Rattle.bounded.specs.Items.{items}
-use Rattle.bounded.proofs.Pushes.{collected_more}
 use Rattle.scheme.specs.declared.entries.Object.{Object}
 use Rattle.scheme.specs.Models.{ObjectModel, object_of as model_of}
 use Rattle.codes.specs.declared.object.ObjectState.TheVariants.{There}
 use Rattle.codes.specs.Objects.{there}
 use Rattle.codes.specs.Meanings.{object_of}
 use Rattle.record.proofs.record.makes.start_in.Goals as goal
-
-pub loop-object-preserved : goal.loop-object-preserved
-loop-object-preserved c =
-    collected_more (λ (o : Object). There o.values) c.objects-object-items.result.now c.loop-object.object-index 8
-    (items c.loop-object.state) (items c.push.new.self) c.object-item.result c.push.result
-    c.loop-object.invariant c.loop-object-test.true c.objects-object-items.ensures.few c.object-item.is c.push.ensures.room c.push.ensures.after
 
 pub returns : goal.returns
 returns c =

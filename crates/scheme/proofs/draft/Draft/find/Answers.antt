@@ -1,30 +1,14 @@
-use Rattle.std.proofs.Common.{sym, ap, ◌∙◌, arith}
-use Rattle.scheme.specs.Names.{index_of}
-use Rattle.scheme.specs.Models.{AttributeModel, ObjectModel, PolicyModel, attribute_of, object_of, policy_of, names_of}
-use Rattle.scheme.specs.Drafts.{draft_of}
-use Rattle.scheme.proofs.Lists.{found_of, below_more}
+use Rattle.std.proofs.Common.{rules}
+use Rattle.std.proofs.lemmas.Simd.{map-map}
 use Rattle.scheme.proofs.draft.Draft.find.Goals as goal
 
-pub returns-in-Attr : goal.returns-in-Attr
-returns-in-Attr c = record {
-  value =
-      found_of attribute_of (λ (x : AttributeModel). x.name) c.attributes.result.now _ c.args.name.now _ c.attributes.ensures.list c.find.ensures.value
-      ∙ ap (λ k. index_of c.args.name.now (names_of k (draft_of c.args.self.now))) (sym c.in-Attr.is);
-  few = below_more _ _ 32 (omega (arith, c.attributes.ensures.few)) c.find.ensures.within;
-}
+-- the names of the entries are those of what the entries stand for
 
-pub returns-in-Object : goal.returns-in-Object
-returns-in-Object c = record {
-  value =
-      found_of object_of (λ (x : ObjectModel). x.name) c.objects.result.now _ c.args.name.now _ c.objects.ensures.list c.find-in-Object.ensures.value
-      ∙ ap (λ k. index_of c.args.name.now (names_of k (draft_of c.args.self.now))) (sym c.in-Object.is);
-  few = below_more _ _ 32 (omega (arith, c.objects.ensures.few)) c.find-in-Object.ensures.within;
-}
+pub returns-in-Attr-clause-value : goal.returns-in-Attr-clause-value
+returns-in-Attr-clause-value c = search (rules, map-map)
 
-pub returns-in-Policy : goal.returns-in-Policy
-returns-in-Policy c = record {
-  value =
-      found_of policy_of (λ (x : PolicyModel). x.name) c.policies.result.now _ c.args.name.now _ c.policies.ensures.list c.find-in-Policy.ensures.value
-      ∙ ap (λ k. index_of c.args.name.now (names_of k (draft_of c.args.self.now))) (sym c.in-Policy.is);
-  few = below_more _ _ 32 (omega (arith, c.policies.ensures.few)) c.find-in-Policy.ensures.within;
-}
+pub returns-in-Object-clause-value : goal.returns-in-Object-clause-value
+returns-in-Object-clause-value c = search (rules, map-map)
+
+pub returns-in-Policy-clause-value : goal.returns-in-Policy-clause-value
+returns-in-Policy-clause-value c = search (rules, map-map)

@@ -1,15 +1,14 @@
-use Rattle.std.proofs.Common.{sym, ap, ◌∙◌}
-use Rattle.bounded.specs.Items.{items}
-use Rattle.scheme.specs.Models.{attribute_of, object_of, room_for}
-use Rattle.scheme.specs.Drafts.{draft_of}
-use Rattle.scheme.proofs.Lists.{room_of}
+use Rattle.std.proofs.Common.{rules}
+use Rattle.scheme.specs.Models.{predicate_room, action_room}
+use Rattle.scheme.proofs.Last.{last_asked}
 use Rattle.scheme.proofs.draft.Draft.has_room.Goals as goal
 
-pub returns-in-Attr : goal.returns-in-Attr
-returns-in-Attr c = let d = c.args.self.now in room_of attribute_of (items d.attributes) 4 _ c.has_room.ensures ∙ ap (λ k. room_for k (draft_of d)) (sym c.in-Attr.is)
+pub returns-in-If : goal.returns-in-If
+returns-in-If c =
+    let told = last_asked predicate_room c.policies.result.now c.last.result c.is_some_and.result c.last.ensures.value (search rules) in
+    search rules
 
-pub returns-in-Right : goal.returns-in-Right
-returns-in-Right c = let d = c.args.self.now in room_of items (items d.rights) 16 _ c.has_room-in-Right.ensures ∙ ap (λ k. room_for k (draft_of d)) (sym c.in-Right.is)
-
-pub returns-in-Object : goal.returns-in-Object
-returns-in-Object c = let d = c.args.self.now in room_of object_of (items d.objects) 8 _ c.has_room-in-Object.ensures ∙ ap (λ k. room_for k (draft_of d)) (sym c.in-Object.is)
+pub returns-in-Do : goal.returns-in-Do
+returns-in-Do c =
+    let told = last_asked action_room c.policies-in-Do.result.now c.last-in-Do.result c.is_some_and-in-Do.result c.last-in-Do.ensures.value (search rules) in
+    search rules

@@ -1,22 +1,15 @@
-use Rattle.std.proofs.Common.{map, sym, ◌∙◌}
-use Rattle.std.proofs.lemmas.List.{at_drop_all}
+use Rattle.std.proofs.Common.{map, ◌∙◌, rules, tests}
+use Rattle.std.proofs.lemmas.Iterator.{YieldsList-from_slice}
+use Rattle.std.proofs.lemmas.Iterator.Search.{all_from_yields_List}
+use Rattle.bounded.specs.Items.{items}
 use Rattle.scheme.specs.declared.entries.Attribute.{Attribute}
-use Rattle.scheme.specs.Models.{object_of}
-use Rattle.scheme.specs.WellFormed.{objects_fit}
-use Rattle.scheme.proofs.Fits.{object_one, item_fails, item_passes}
+use Rattle.scheme.specs.declared.entries.Object.{Object}
+use Rattle.scheme.specs.WellFormed.{values_fit}
+use Rattle.scheme.proofs.Fits.{all_objects}
 use Rattle.scheme.proofs.draft.checks.objects_fit.Goals as goal
-
-pub returns-then-not-values_fit : goal.returns-then-not-values_fit
-returns-then-not-values_fit c =
-    let one = object_one (map (λ (a : Attribute). a.size) c.args.attributes.now) c.args.objects.now c.loop-object.object-index c.object-item.result c.as_slice.result.now c.values_fit.result c.loop-object-test.true c.object-item.is c.as_slice.ensures c.values_fit.ensures in
-    item_fails _ _ _ _ one c.loop-object.invariant c.if-not-values_fit.true
-
-pub loop-object-preserved : goal.loop-object-preserved
-loop-object-preserved c =
-    let one = object_one (map (λ (a : Attribute). a.size) c.args.attributes.now) c.args.objects.now c.loop-object.object-index c.object-item.result c.as_slice.result.now c.values_fit.result c.loop-object-test.true c.object-item.is c.as_slice.ensures c.values_fit.ensures in
-    item_passes _ _ _ _ one c.loop-object.invariant c.if-not-values_fit.false
 
 pub returns : goal.returns
 returns c =
     let ks = map (λ (a : Attribute). a.size) c.args.attributes.now in
-    sym (at_drop_all (λ l. objects_fit ks (map object_of l)) c.args.objects.now c.loop-object.object-index c.loop-object-test.false) ∙ c.loop-object.invariant
+    all_from_yields_List (λ (o : Object). values_fit ks (items o.values)) _ _ c.all.result c.all.ensures.ran (YieldsList-from_slice c.args.objects.now cc) (λ x b q k. search (rules, tests))
+    ∙ all_objects ks c.args.objects.now

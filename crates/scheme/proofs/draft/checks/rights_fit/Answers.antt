@@ -1,19 +1,11 @@
-use Rattle.std.proofs.Common.{map, sym, ◌∙◌}
-use Rattle.std.proofs.lemmas.List.{at_drop_all}
-use Rattle.scheme.specs.Models.{policy_of}
-use Rattle.scheme.specs.WellFormed.{rights_fit}
-use Rattle.scheme.proofs.Fits.{policy_one, item_fails, item_passes}
+use Rattle.std.proofs.Common.{ltb, ◌∙◌, rules, tests}
+use Rattle.std.proofs.lemmas.Iterator.{YieldsList-from_slice}
+use Rattle.std.proofs.lemmas.Iterator.Search.{all_from_yields_List}
+use Rattle.scheme.specs.declared.entries.Policy.{Policy}
+use Rattle.scheme.proofs.Fits.{all_rights}
 use Rattle.scheme.proofs.draft.checks.rights_fit.Goals as goal
 
-pub returns-then-not-right_fits : goal.returns-then-not-right_fits
-returns-then-not-right_fits c =
-    let one = policy_one c.args.rights c.args.policies.now c.loop-policy.policy-index c.policy-item.result c.right_fits.result c.loop-policy-test.true c.policy-item.is c.right_fits.ensures in
-    item_fails _ _ _ _ one c.loop-policy.invariant c.if-not-right_fits.true
-
-pub loop-policy-preserved : goal.loop-policy-preserved
-loop-policy-preserved c =
-    let one = policy_one c.args.rights c.args.policies.now c.loop-policy.policy-index c.policy-item.result c.right_fits.result c.loop-policy-test.true c.policy-item.is c.right_fits.ensures in
-    item_passes _ _ _ _ one c.loop-policy.invariant c.if-not-right_fits.false
-
 pub returns : goal.returns
-returns c = sym (at_drop_all (λ l. rights_fit c.args.rights (map policy_of l)) c.args.policies.now c.loop-policy.policy-index c.loop-policy-test.false) ∙ c.loop-policy.invariant
+returns c =
+    all_from_yields_List (λ (p : Policy). ltb p.right c.args.rights) _ _ c.all.result c.all.ensures.ran (YieldsList-from_slice c.args.policies.now cc) (λ x b q k. search (rules, tests))
+    ∙ all_rights c.args.rights c.args.policies.now

@@ -1,22 +1,17 @@
-use Rattle.std.proofs.Common.{◌≤◌, length, None, sym, ◌∙◌, arith}
+use Rattle.std.proofs.Common.{ℕ, Option, ◌∙◌, arith, rules, tests}
+use Rattle.std.proofs.lemmas.Bool.Decides.{nat_tests}
+use Rattle.std.proofs.lemmas.Iterator.{YieldsList-from_slice, YieldsList-from_zip}
+use Rattle.std.proofs.lemmas.Iterator.Search.{all_from_yields_List}
 use Rattle.scheme.specs.declared.entries.Attribute.{Attribute}
-use Rattle.scheme.proofs.Fits.{value_one, values_end, values_of_other_count, item_fails, item_passes}
+use Rattle.scheme.specs.WellFormed.{value_fits}
+use Rattle.scheme.proofs.Fits.{all_values, values_of_other_count}
 use Rattle.scheme.proofs.draft.checks.values_fit.Goals as goal
 
 pub returns-then-values-attributes : goal.returns-then-values-attributes
-returns-then-values-attributes c = sym (values_of_other_count (λ (a : Attribute). a.size) c.args.attributes.now c.args.values.now c.if-values-attributes.true)
+returns-then-values-attributes c =
+    all_from_yields_List (λ (p : Attribute × Option ℕ). value_fits p.0.size p.1) c.all.new.self _ c.all.result c.all.ensures.ran (YieldsList-from_zip (YieldsList-from_slice c.args.attributes.now cc) (YieldsList-from_slice c.args.values.now cc)) (λ x b q k. search (rules, tests))
+    ∙ all_values (λ (a : Attribute). a.size) c.args.attributes.now c.args.values.now c.if-values-attributes.true
 
-pub returns-then-not-value_fits : goal.returns-then-not-value_fits
-returns-then-not-value_fits c =
-    let one = value_one (λ (a : Attribute). a.size) c.args.attributes.now c.args.values.now c.loop-i.i c.index-attributes-i.result None c.value_fits.result c.loop-i-test.true (omega arith) c.index-attributes-i.is c.value_fits.ensures in
-    item_fails _ _ _ _ one c.loop-i.invariant c.if-not-value_fits.true
-
-pub loop-i-preserved : goal.loop-i-preserved
-loop-i-preserved c =
-    let one = value_one (λ (a : Attribute). a.size) c.args.attributes.now c.args.values.now c.loop-i.i c.index-attributes-i.result None c.value_fits.result c.loop-i-test.true (omega arith) c.index-attributes-i.is c.value_fits.ensures in
-    item_passes _ _ _ _ one c.loop-i.invariant c.if-not-value_fits.false
-
-pub returns : goal.returns
-returns c =
-    let h : length c.args.values.now ≤ c.loop-i.i = omega arith in
-    sym (values_end (λ (a : Attribute). a.size) c.args.attributes.now c.args.values.now c.loop-i.i c.loop-i-test.false h) ∙ c.loop-i.invariant
+pub returns-else-values-attributes : goal.returns-else-values-attributes
+returns-else-values-attributes c =
+    grind (arith, nat_tests, values_of_other_count (λ (a : Attribute). a.size) c.args.attributes.now c.args.values.now c.if-values-attributes.false)

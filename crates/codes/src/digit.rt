@@ -1,0 +1,44 @@
+// One attribute in a code: a code that is not 0 is 1 more than a sum of parts, each times a weight.
+ghost use Rattle.std.specs.Prelude.{◌≡◌, ◌+◌, ◌/◌, ◌%◌, ◌<◌};
+ghost use Rattle.scheme.specs.WellFormed.{value_fits};
+ghost use Rattle.codes.specs.Codes.{part, from_part};
+
+// The size of the attribute, and what part 1 of it counts for.
+#[derive(Clone, Copy)]
+pub struct Digit {
+    pub(crate) size: u8,
+    pub(crate) weight: u32,
+    ghost counts: { 0 < weight },
+}
+
+// 0 for null, v + 1 for the value v.
+pub(crate) fn part_of(value: Option<u8>) -> u32
+    ensures { result ≡ part value }
+{
+    value.map_or(0, |v| v as u32 + 1)
+}
+
+// The value of a part.
+pub(crate) fn value_of(part: u32) -> Option<u8>
+    requires { part < 257 }
+    ensures { result ≡ from_part part }
+{
+    part.checked_sub(1).map(|v| v as u8)
+}
+
+impl Digit {
+    // Null, or a value below the size.
+    pub(crate) fn fits(&self, value: Option<u8>) -> bool
+        ensures { result ≡ value_fits self.now.size value }
+    {
+        value.is_none_or(|v| v < self.size)
+    }
+
+    // Its part in a sum.
+    pub(crate) fn part_in(&self, sum: u32) -> u32
+        ensures value { result ≡ sum / self.now.weight % (self.now.size + 1) }
+        ensures small { result < 257 }
+    {
+        sum / self.weight % (self.size as u32 + 1)
+    }
+}
