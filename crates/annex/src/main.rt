@@ -5,7 +5,8 @@ use input::read_up_to;
 use report::headline_of;
 use std::io;
 
-// One byte more than the longest text: enough to know that a text is too long.
+// One byte more than the longest text: enough to know that a text is too long. A buffer of fixed length,
+// which needs no memory.
 const ENOUGH: usize = 65_536;
 
 fn run(rt: &HostRuntime) -> io::Result<()> {

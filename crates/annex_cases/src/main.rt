@@ -8,6 +8,7 @@ use std::io;
 use std::io::Write;
 
 fn run(rt: &HostRuntime) -> io::Result<()> {
+    // room for all cases, which needs no memory
     let mut buffer = [0u8; 262_144];
     let mut bytes = read_up_to(&mut rt.stdin(), &mut buffer)?;
     let mut reports = Vec::new(rt.alloc());

@@ -3,6 +3,8 @@ ghost use Rattle.std.specs.Prelude.{◌≡◌, ◌+◌, ◌/◌, ◌%◌, ◌<�
 ghost use Rattle.scheme.specs.WellFormed.{value_fits};
 ghost use Rattle.codes.specs.Codes.{part, from_part};
 
+use scheme::entries::value_fits;
+
 // The size of the attribute, and what part 1 of it counts for.
 #[derive(Clone, Copy)]
 pub struct Digit {
@@ -31,7 +33,7 @@ impl Digit {
     pub(crate) fn fits(&self, value: Option<u8>) -> bool
         ensures { result ≡ value_fits self.now.size value }
     {
-        value.is_none_or(|v| v < self.size)
+        value_fits(self.size, value)
     }
 
     // Its part in a sum.

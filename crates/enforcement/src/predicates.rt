@@ -6,7 +6,8 @@ ghost use Rattle.enforcement.specs.Meanings.{subject_values, object_values};
 use crate::parties::CodedPair;
 use scheme::terms::{Comparison, Operand, Predicate, Term};
 
-// What a predicate asks of its two values; `null` and `set` ask of the left one alone.
+// What a predicate asks of its two values; `null` and `set` ask of the left one alone. All eight are cases
+// of one match below, as the project has them.
 #[derive(Clone, Copy)]
 pub enum Operator {
     Null,

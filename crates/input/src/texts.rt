@@ -4,7 +4,8 @@ ghost use Rattle.std.specs.Char.{is_ascii_digit};
 ghost use Rattle.std.specs.Option.{option_map};
 ghost use Rattle.input.specs.Texts.{number, capped_number, cut, split_text};
 
-// The number that digits write; where it is greater than any length, the greatest length.
+// The number that digits write; where it is greater than any length, the greatest length. `parse` would
+// refuse such a number, and no digits too.
 fn number_of(digits: &[u8]) -> usize
     ensures { result ≡ capped_number digits.now }
 {

@@ -16,6 +16,7 @@ pub mod evidence;
 
 pub use denial::Denial;
 pub use evidence::{confirm, replays};
+pub use protection::Numbered;
 
 // A system and the state that it is in; only the calls below change the state.
 #[derive(Drop)]

@@ -2,7 +2,8 @@
 ghost use Rattle.std.specs.Prelude.{◌≡◌};
 ghost use Rattle.protection.specs.Refusals.{Refused};
 
-// A refusal, which has a number of its own among all refusals.
+// A refusal. Each type writes its numbers in a `match`: some cases carry values, so that not every
+// number could be a discriminant.
 pub trait Numbered {
     ghost values: { Self → Refused };
 

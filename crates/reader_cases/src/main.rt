@@ -7,6 +7,7 @@ use report::headline_of;
 use std::io;
 
 fn run(rt: &HostRuntime) -> io::Result<()> {
+    // room for all cases, which needs no memory
     let mut buffer = [0u8; 262_144];
     let mut bytes = read_up_to(&mut rt.stdin(), &mut buffer)?;
     while let Some((text, rest)) = split_text(bytes) {

@@ -1,4 +1,4 @@
-// The three tables of an analysis.
+// The three tables of an analysis: arrays, so that they need no memory and have their lengths in their types.
 use walk::Found;
 
 // The entries of each.

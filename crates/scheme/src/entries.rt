@@ -1,5 +1,7 @@
 // The entries that the lines of a text declare.
+ghost use Rattle.std.specs.Prelude.{◌≡◌};
 ghost use Rattle.bounded.specs.Items.{items};
+ghost use Rattle.scheme.specs.WellFormed.{value_fits};
 
 use crate::names::{Name, Named};
 use crate::terms::{Action, Predicate};
@@ -27,13 +29,23 @@ pub struct Policy {
     pub actions: Bounded<Action, 6>,
 }
 
-// A permission that is asked about, by the numbers of its subject, object and right.
+// A permission that is asked about, by the numbers of its subject, object and right. A type of its own:
+// what is declared knows no protection systems, and `record` leads from the one to the other.
 #[derive(Clone, Copy)]
 pub struct Query {
     pub subject: u32,
     pub object: u32,
     pub right: u32,
 }
+
+// Whether an attribute of this size can have it: null, or a value below the size.
+pub fn value_fits(size: u8, value: Option<u8>) -> bool
+    ensures { result ≡ value_fits size value }
+{
+    value.is_none_or(|value| value < size)
+}
+
+// An `impl` for each kind of entry, each of one line: what they have in common is the trait.
 
 impl Named for Name {
     ghost named = { λ n. items n };

@@ -8,7 +8,7 @@ use crate::names::Name;
 use crate::terms::{Action, Clause, Party, Predicate, Term};
 use bounded::{Bounded, Full};
 
-// Its method `lend` lends the policy that is filled, and hands none back.
+// The list's method `lend` lends one policy to what fills it, and hands none back.
 pub type Policies = Bounded<Policy, 32>;
 
 impl Policy {

@@ -5,6 +5,9 @@ ghost use Rattle.scheme.specs.Drafts.{draft_of};
 
 use crate::draft::Draft;
 
+// The most states that a scheme may have, and the most codes of one object.
+pub const MAX_STATES: u32 = 1_048_576;
+
 #[derive(Clone, Copy)]
 pub struct Scheme {
     draft: Draft,

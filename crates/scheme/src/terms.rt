@@ -14,7 +14,7 @@ pub struct Term {
     pub attribute: u8,
 }
 
-// What a predicate compares with, and what an action assigns.
+// What a predicate compares with, and what an action assigns: three cases, as the project has them.
 #[derive(Clone, Copy)]
 pub enum Operand {
     SubjectAttribute(u8),

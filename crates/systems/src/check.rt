@@ -11,7 +11,7 @@ use super::refusals::TableRefusal;
 use protection::Permission;
 
 impl Numbers<'_> {
-    // The first refusal that applies, if one does.
+    // Refuses with the first refusal that applies.
     #[tactic(auto, unfolding(crate::specs::Tables::refusal))]
     pub(crate) fn check(&self) -> Result<(), TableRefusal>
         ensures { numbered table_refusal_values result ≡ fill_answer (table_of self.now) }

@@ -11,5 +11,6 @@ pub mod table_system;
 
 pub use lock::LockList;
 pub use numbers::Numbers;
+pub use protection::Numbered;
 pub use refusals::{LockRefusal, TableRefusal};
 pub use table::TableSystem;

@@ -48,7 +48,7 @@ impl<S: System> LockList<S> {
         if has_lock(self.listed(), p) {
             return Ok(self.listed().len() as u32);
         }
-        self.locks.push(p).map_err(|_| LockRefusal::Full)?;
+        self.locks.push(p)?;
         Ok(self.listed().len() as u32)
     }
 }

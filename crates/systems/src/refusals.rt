@@ -1,4 +1,6 @@
 // Why a table's numbers are refused, and why a lock is.
+ghost use Rattle.std.specs.Prelude.{◌≡◌};
+ghost use Rattle.systems.specs.declared.refusals.LockRefusal.TheVariants.{Full};
 ghost use Rattle.systems.specs.Refusals.{table_refusal_values, lock_refusal_values};
 
 use protection::Numbered;
@@ -37,6 +39,14 @@ pub enum LockRefusal {
     OutOfCounts,
     // sixteen permissions are listed
     Full,
+}
+
+impl From<bounded::Full> for LockRefusal {
+    ghost from_gives = { λ _ refusal. refusal ≡ Full };
+
+    fn from(_full: bounded::Full) -> Self {
+        LockRefusal::Full
+    }
 }
 
 impl Numbered for LockRefusal {

@@ -9,7 +9,8 @@ use super::records::Found;
 // A lifetime for each table, so that each is known again once the listing is let go.
 #[derive(Drop)]
 pub(crate) struct Listing<'m, 't> {
-    // of each state its place in the table plus 1, or 0 where it is not listed
+    // of each state its place in the table plus 1, or 0 where it is not listed: the caller's numbers,
+    // as the project has them
     marks: &'m mut [u32],
     // the listed states, and behind them what the caller's table held
     table: &'t mut [Found],

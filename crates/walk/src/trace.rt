@@ -14,7 +14,7 @@ fn depth(found: &[Found], place: u32) -> u32
 {
     let mut at = place;
     let mut steps: u32 = 0;
-    // no chain of an iterator, since each place is read from the table at the one before
+    // no chain of `successors`, which would have to test again that each parent is a place of the table
     while at != 0 {
         at = found[at as usize].parent;
         steps += 1;
@@ -35,6 +35,7 @@ pub(crate) fn write_witness(found: &[Found], place: u32, mv: u32, witness: &mut 
     let depth = depth(found, place);
     witness[depth as usize] = mv;
     let mut at = place;
+    // by index, since a proof knows nothing of the entries once they were written through `iter_mut`
     for left in (0..depth).rev() {
         let step = found[at as usize];
         witness[left as usize] = step.mv;

@@ -28,7 +28,8 @@ fn is_name(word: &[u8]) -> bool
     }
 }
 
-// The number that a word writes: 0 to 255 without leading zeros.
+// The number that a word writes: 0 to 255 without leading zeros. Not by `parse`, which takes leading zeros
+// and a sign: they would have to be kept out first.
 fn number_in(word: &[u8]) -> Option<u8>
     ensures { result ≡ number_in word.now }
 {

@@ -11,7 +11,8 @@ pub enum WordFault {
     LongWord(Spot),
 }
 
-// A refusal's number, line and place.
+// A refusal's number, line and place, side by side as they are printed; no `Spot`, since a refusal of no
+// place has 0 and 0.
 #[derive(Clone, Copy, Debug, PartialEq, Eq)]
 pub struct Report {
     pub number: u32,

@@ -8,8 +8,7 @@ ghost use Rattle.codes.specs.Meanings.{sizes_in};
 use super::Codes;
 use crate::digit::Digit;
 use bounded::Bounded;
-
-const MAX_CODES: u64 = 1_048_576;
+use scheme::record::MAX_STATES;
 
 impl Codes {
     // None where one object has more than 1,048,576 codes.
@@ -29,7 +28,7 @@ impl Codes {
             weight *= *size as u64 + 1;
         }
         let radix = 1 + weight;
-        if radix > MAX_CODES {
+        if radix > MAX_STATES as u64 {
             return None;
         }
         Some(Codes {

@@ -17,6 +17,7 @@ pub(crate) fn moves_of(objects: u32, policies: u32) -> Bounded<Move, 2048>
         subject: 0,
         object: 0,
     });
+    // no `collect`, of which the check does not find that at most 2,048 come
     for mv in 0..objects * objects * policies {
         moves.push(move_at(objects as u8, mv)).unwrap();
     }

@@ -8,11 +8,10 @@ ghost use Rattle.record.specs.Numberings.{dimensions_of, within_bounds};
 use super::Numbering;
 use bounded::Bounded;
 use codes::Codes;
+use scheme::record::MAX_STATES;
 
 // A count of objects is at most 8 in what follows, because a draft has no more: it comes from a draft's
 // list, so that a type of its own would only say again what the list's contract says.
-
-const MAX_STATES: u32 = 1_048_576;
 
 // The count of codes to the power of the count of objects; none where that is more than a walk may
 // have.
@@ -32,6 +31,7 @@ fn places_of(radix: u32, objects: u32) -> Bounded<u32, 8>
     ensures count { length (items result) ≡ objects }
 {
     let mut places = Bounded::new(1);
+    // no `collect`: that no power overflows holds of these objects alone, which a closure does not know
     for object in 0..objects {
         places.push(radix.pow(object)).unwrap();
     }

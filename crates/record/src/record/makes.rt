@@ -20,22 +20,19 @@ use scheme::draft::Draft;
 fn sizes_in(draft: &Draft) -> Bounded<u8, 4>
     ensures { items result ≡ sizes_of (draft_of draft.now) }
 {
-    let mut sizes = Bounded::new(0);
-    for attribute in draft.attributes() {
-        sizes.push(attribute.size).unwrap();
-    }
-    sizes
+    let attributes = draft.attributes();
+    Bounded::collect(0, attributes.iter().map(|attribute| attribute.size)).unwrap()
 }
 
 // Every object is there, with the values of its line.
 fn start_in(draft: &Draft) -> State
     ensures { state_of result ≡ start_state (draft_of draft.now) }
 {
-    let mut state = Bounded::new(ObjectState::Absent);
-    for object in draft.objects() {
-        state.push(ObjectState::There(object.values)).unwrap();
-    }
-    state
+    let there = draft
+        .objects()
+        .iter()
+        .map(|object| ObjectState::There(object.values));
+    Bounded::collect(ObjectState::Absent, there).unwrap()
 }
 
 impl Scheme {

@@ -3,16 +3,10 @@
 ghost use Rattle.std.specs.Prelude.{◌≡◌, map};
 ghost use Rattle.scheme.specs.Models.{object_of, policy_of};
 ghost use Rattle.scheme.specs.Drafts.{draft_of};
-ghost use Rattle.scheme.specs.WellFormed.{value_fits, values_fit, objects_fit, rights_fit, well_formed};
+ghost use Rattle.scheme.specs.WellFormed.{values_fit, objects_fit, rights_fit, well_formed};
 
 use super::Draft;
-use crate::entries::{Attribute, Object, Policy};
-
-fn value_fits(size: u8, value: Option<u8>) -> bool
-    ensures { result ≡ value_fits size value }
-{
-    value.is_none_or(|value| value < size)
-}
+use crate::entries::{Attribute, Object, Policy, value_fits};
 
 // There is a value or null for each attribute, and no more.
 fn values_fit(attributes: &[Attribute], values: &[Option<u8>]) -> bool

@@ -6,8 +6,6 @@ ghost use Rattle.scheme.specs.Drafts.{draft_of};
 
 use crate::draft::Draft;
 
-pub(crate) const MAX_STATES: u64 = 1_048_576;
-
 const CAP: u64 = 1_048_577;
 
 // A product, or CAP where it is greater.

@@ -6,8 +6,8 @@ ghost use Rattle.scheme.specs.Counts.{state_count, move_count};
 ghost use Rattle.scheme.specs.Drafts.{draft_of};
 ghost use Rattle.scheme.specs.Schemes.{scheme_of};
 
-use super::Scheme;
-use super::counts::{MAX_STATES, states_capped};
+use super::counts::states_capped;
+use super::{MAX_STATES, Scheme};
 use crate::draft::Draft;
 
 impl Scheme {
@@ -26,7 +26,7 @@ impl Scheme {
         ensures { option_map scheme_of result ≡ (if nat_le (state_count (draft_of draft)) 1048576 then Some (draft_of draft) else None) }
     {
         let states = states_capped(&draft);
-        if states > MAX_STATES {
+        if states > MAX_STATES as u64 {
             return None;
         }
         Some(Scheme {

@@ -1,14 +1,15 @@
-use Rattle.std.proofs.Common.{map, sym, ap, ◌∙◌}
+use Rattle.std.proofs.Common.{map, sym, ap, ◌∙◌, rules}
+use Rattle.std.proofs.lemmas.Iterator.{YieldsList-from_slice, YieldsList-from_map}
 use Rattle.std.proofs.lemmas.Simd.{map-map}
-use Rattle.std.proofs.lemmas.List.{take_all}
+use Rattle.bounded.proofs.Collects.{collected}
 use Rattle.scheme.specs.declared.entries.Attribute.{Attribute}
 use Rattle.scheme.specs.Models.{AttributeModel, attribute_of}
 use Rattle.record.proofs.record.makes.sizes_in.Goals as goal
 
 pub returns : goal.returns
 returns c =
-    let all = c.attributes-attribute-items.result.now in
-    c.loop-attribute.invariant
-    ∙ ap (λ l. map (λ (a : Attribute). a.size) l) (take_all c.loop-attribute.attribute-index all c.loop-attribute-test.false)
+    let all = c.attributes-attributes.result.now in
+    collected 4 c.collect.result c.unwrap.result c.collect.ensures c.unwrap.ensures
+    (YieldsList-from_map _ (λ (a : Attribute). a.size) (YieldsList-from_slice all cc) c.map.ensures.closure (λ x r q k. search rules))
     ∙ sym (map-map (λ (a : AttributeModel). a.size) attribute_of all)
-    ∙ ap (λ l. map (λ (a : AttributeModel). a.size) l) c.attributes-attribute-items.ensures.list
+    ∙ ap (λ l. map (λ (a : AttributeModel). a.size) l) c.attributes-attributes.ensures.list

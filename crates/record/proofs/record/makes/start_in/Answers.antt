@@ -1,6 +1,7 @@
-use Rattle.std.proofs.Common.{map, sym, ap, ◌∙◌}
+use Rattle.std.proofs.Common.{map, sym, ap, ◌∙◌, rules}
+use Rattle.std.proofs.lemmas.Iterator.{YieldsList-from_slice, YieldsList-from_map}
 use Rattle.std.proofs.lemmas.Simd.{map-map}
-use Rattle.std.proofs.lemmas.List.{take_all}
+use Rattle.bounded.proofs.Collects.{collected}
 use Rattle.scheme.specs.declared.entries.Object.{Object}
 use Rattle.scheme.specs.Models.{ObjectModel, object_of as model_of}
 use Rattle.codes.specs.declared.object.ObjectState.TheVariants.{There}
@@ -10,9 +11,10 @@ use Rattle.record.proofs.record.makes.start_in.Goals as goal
 
 pub returns : goal.returns
 returns c =
-    let all = c.objects-object-items.result.now in
-    ap (λ l. map object_of l) c.loop-object.invariant
-    ∙ ap (λ l. map object_of (map (λ (o : Object). There o.values) l)) (take_all c.loop-object.object-index all c.loop-object-test.false)
+    let all = c.objects.result.now in
+    ap (λ l. map object_of l)
+    (collected 8 c.collect.result c.unwrap.result c.collect.ensures c.unwrap.ensures
+    (YieldsList-from_map _ (λ (o : Object). There o.values) (YieldsList-from_slice all cc) c.map-there.ensures.closure (λ x r q k. search rules)))
     ∙ map-map object_of (λ (o : Object). There o.values) all
     ∙ sym (map-map (λ (o : ObjectModel). there o.values) model_of all)
-    ∙ ap (λ l. map (λ (o : ObjectModel). there o.values) l) c.objects-object-items.ensures.list
+    ∙ ap (λ l. map (λ (o : ObjectModel). there o.values) l) c.objects.ensures.list
