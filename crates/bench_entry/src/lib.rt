@@ -36,6 +36,8 @@ pub extern "C" fn bench_analyse(
     ensures found { found.new ≡ found_left (asked_by text.now query) result found.old }
     ensures witness { witness.new ≡ witness_left (asked_by text.now query) result witness.old }
 {
+    // These steps stand in `reports::annex` too, which prints: one function for both would be no plainer, since
+    // the one goes on with a refusal where the other has its number.
     let mut declared = Declared::bare();
     if let Err(fault) = read(&mut declared, text) {
         return fault.report().number;
