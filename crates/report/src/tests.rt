@@ -46,10 +46,8 @@ fn longest_and_longer(rt: HostRuntime) -> Result<(), Fail> {
 #[test]
 fn one_long_line(rt: HostRuntime) -> Result<(), Fail> {
     let mut words = filled(rt.alloc(), b'a', 65_535)?;
-    for (i, byte) in words.iter_mut().enumerate() {
-        if i % 2 == 1 {
-            *byte = b' ';
-        }
+    for byte in words.iter_mut().skip(1).step_by(2) {
+        *byte = b' ';
     }
     assert_eq!(rt; headline_of(words.as_slice()), refused(10, 1, 1));
     let spaces = filled(rt.alloc(), b' ', 65_535)?;

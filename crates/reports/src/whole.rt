@@ -13,6 +13,8 @@ use render::{Word, put_line};
 use scheme::draft::Draft;
 use std::alloc::AllocError;
 
+// `out` is the place to write to, as `f` is in a `Display`, and stands beside what is written: no struct has
+// both.
 fn put_counts<S: System>(out: &mut Vec<u8>, system: &S) -> Result<(), AllocError>
     ensures { Appended result out.old out.new (scheme_line (meaning S.Walk S.System.own system.now)) }
 {

@@ -95,10 +95,9 @@ impl Case {
             "inner" => self.inner.push(permission(numbers.as_slice()))?,
             "outer" => self.outer.push(permission(numbers.as_slice()))?,
             _ => {
-                let Some(question) = asked(word, numbers.as_slice()) else {
-                    return Err(anyhow!("unknown line"));
-                };
-                self.questions.push(question)?;
+                let question = asked(word, numbers.as_slice());
+                self.questions
+                    .push(question.ok_or_else(|| anyhow!("unknown line"))?)?;
             }
         }
         Ok(())

@@ -3,6 +3,7 @@ use super::case::{Case, Query, Question, number_at};
 use super::show::*;
 use monitor::{Monitor, confirm};
 use protection::{Permission, System, Verdict};
+use std::alloc::{AllocError, Global};
 use std::io;
 use systems::{LockList, Numbers, TableSystem};
 use walk::Found;
@@ -68,9 +69,7 @@ fn ask_all<S: System>(rt: &HostRuntime, system: &S, questions: &[Question]) -> a
 // all that they hold, and where a witness leads.
 fn ask_query<S: System>(rt: &HostRuntime, system: &S, query: Query) -> anyhow::Result<()> {
     let heap = rt.alloc();
-    let mut marks: Vec<u32> = (0..query.marks)
-        .map(|i| i.wrapping_add(1000))
-        .collect(heap)?;
+    let mut marks = numbers_from(heap, 1000, query.marks)?;
     let mut found: Vec<Found> = (0..query.found)
         .map(|i| Found {
             state: i.wrapping_add(3000),
@@ -78,9 +77,7 @@ fn ask_query<S: System>(rt: &HostRuntime, system: &S, query: Query) -> anyhow::R
             mv: i.wrapping_add(5000),
         })
         .collect(heap)?;
-    let mut witness: Vec<u32> = (0..query.witness)
-        .map(|i| i.wrapping_add(2000))
-        .collect(heap)?;
+    let mut witness = numbers_from(heap, 2000, query.witness)?;
     let answer = confirm(
         system,
         query.q,
@@ -101,4 +98,9 @@ fn ask_query<S: System>(rt: &HostRuntime, system: &S, query: Query) -> anyhow::R
         }
     }
     Ok(())
+}
+
+// So many numbers, one after another.
+fn numbers_from(heap: Global, first: u32, count: u32) -> Result<Vec<u32>, AllocError> {
+    (0..count).map(|i| i.wrapping_add(first)).collect(heap)
 }

@@ -6,10 +6,8 @@ use std::test::Fail;
 // What is printed of a text of this many bytes, all the same but for those at odd places.
 fn printed(heap: Global, len: usize, even: u8, odd: u8) -> Result<Vec<u8>, Fail> {
     let mut text = vec![in heap; even; len]?;
-    for (i, byte) in text.iter_mut().enumerate() {
-        if i % 2 == 1 {
-            *byte = odd;
-        }
+    for byte in text.iter_mut().skip(1).step_by(2) {
+        *byte = odd;
     }
     let mut out = Vec::new(heap);
     annex(&mut out, text.as_slice())?;
