@@ -2,19 +2,18 @@
 // report of each.
 #![tactic(auto)]
 
-use input::{read_up_to, split_text};
+use input::{Texts, read_up_to};
 use reports::annex;
 use std::io;
 use std::io::Write;
 
 fn run(rt: &HostRuntime) -> io::Result<()> {
-    // room for all cases, which needs no memory
+    // room for all cases
     let mut buffer = [0u8; 262_144];
-    let mut bytes = read_up_to(&mut rt.stdin(), &mut buffer)?;
+    let bytes = read_up_to(&mut rt.stdin(), &mut buffer)?;
     let mut reports = Vec::new(rt.alloc());
-    while let Some((text, rest)) = split_text(bytes) {
+    for text in Texts::of(bytes) {
         annex(&mut reports, text)?;
-        bytes = rest;
     }
     rt.stdout().write_all(reports.as_slice())
 }

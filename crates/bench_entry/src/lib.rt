@@ -57,7 +57,8 @@ fn asked(scheme: &Scheme, query: u32) -> Option<Permission>
     Some(permission_asked(*query))
 }
 
-// Analyses a permission of any system.
+// Analyses a permission of any system. Here and in `tell` a number and an answer to write into, and no
+// `Result`: what C is told, for any system and any outcome.
 fn ask<S: System>(
     system: &S,
     q: Permission,

@@ -20,7 +20,7 @@ impl<T: Copy, const N: usize> Bounded<T, N> {
         }
     }
 
-    // A copy of the items of a slice, or none where they are more than N.
+    // A copy of the items of a slice, or none where they are more than N: in one piece, and no `collect`.
     pub fn from_slice(slice: &[T], filler: T) -> Option<Self>
         ensures { option_map items result ≡ (if nat_le (length slice.now) N then Some slice.now else None) }
     {

@@ -11,4 +11,4 @@ pub mod digit;
 pub mod object;
 
 pub use codes::Codes;
-pub use object::ObjectState;
+pub use object::{ABSENT, ObjectState};

@@ -7,6 +7,7 @@ ghost use Rattle.enforcement.specs.Meanings.{sizes_of, parties_of, after};
 
 use crate::pair::Pair;
 use crate::parties::CodedPair;
+use codes::ABSENT;
 use scheme::terms::{Action, Operand, Party, Term};
 
 impl<'a> CodedPair<'a> {
@@ -39,10 +40,10 @@ impl<'a> CodedPair<'a> {
     fn destroy(&self, party: Party) -> Option<Pair>
         ensures { result ≡ after self.now (destroyed party) }
     {
-        if self.pair.of(party) == 0 {
+        if self.pair.of(party) == ABSENT {
             return None;
         }
-        Some(self.pair.with(party, 0))
+        Some(self.pair.with(party, ABSENT))
     }
 
     // A sum that is no byte is not below any size.
@@ -68,6 +69,7 @@ impl<'a> CodedPair<'a> {
     {
         let codes = self.codes;
         let mut pair = self.pair;
+        // no `try_fold`, which is no plainer: its closure would have to state that the pair is one of codes
         for action in actions {
             pair = CodedPair { codes, pair }.act(*action)?;
         }

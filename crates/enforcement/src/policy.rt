@@ -5,7 +5,7 @@ ghost use Rattle.enforcement.specs.Coded.{enforced_pair};
 
 use crate::pair::Pair;
 use crate::parties::CodedPair;
-use codes::Codes;
+use codes::{ABSENT, Codes};
 use scheme::terms::{Action, Predicate};
 
 // The pair after the policy with these predicates and actions; none where it is not enforced: an
@@ -23,7 +23,7 @@ pub fn enforce(
         return None;
     }
     let parties = CodedPair { codes, pair };
-    if pair.subject == 0 || pair.object == 0 || !parties.all_hold(predicates) {
+    if pair.subject == ABSENT || pair.object == ABSENT || !parties.all_hold(predicates) {
         return None;
     }
     parties.run(actions)

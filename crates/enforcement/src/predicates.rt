@@ -7,7 +7,7 @@ use crate::parties::CodedPair;
 use scheme::terms::{Comparison, Operand, Predicate, Term};
 
 // What a predicate asks of its two values; `null` and `set` ask of the left one alone. All eight are cases
-// of one match below, as the project has them.
+// of one match below: a form that the decisions fix (docs/DECISIONS.md, Forms).
 #[derive(Clone, Copy)]
 pub enum Operator {
     Null,

@@ -1,2 +1,3 @@
 mod Filling
 pub mod Capped
+pub mod InTurn

@@ -7,7 +7,7 @@ pub mod texts;
 
 use std::io;
 use std::io::Read;
-pub use texts::split_text;
+pub use texts::{Texts, split_text};
 
 // Fills `buffer` from its front until the input ends or `buffer` is full; the bytes that came.
 pub fn read_up_to<'a, R: Read>(input: &mut R, buffer: &'a mut [u8]) -> io::Result<&'a [u8]>

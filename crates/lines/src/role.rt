@@ -19,6 +19,7 @@ pub enum Role {
     Key(Key),
 }
 
+// What may stand in a term's place. No `Option`: each of the three is one test of a form.
 #[derive(Clone, Copy)]
 pub enum Instead {
     Nothing,

@@ -2,18 +2,17 @@
 // first line of the report of each.
 #![tactic(auto)]
 
-use input::{read_up_to, split_text};
+use input::{Texts, read_up_to};
 use report::headline_of;
 use std::io;
 
 fn run(rt: &HostRuntime) -> io::Result<()> {
-    // room for all cases, which needs no memory
+    // room for all cases
     let mut buffer = [0u8; 262_144];
-    let mut bytes = read_up_to(&mut rt.stdin(), &mut buffer)?;
-    while let Some((text, rest)) = split_text(bytes) {
+    let bytes = read_up_to(&mut rt.stdin(), &mut buffer)?;
+    for text in Texts::of(bytes) {
         let headline = headline_of(text);
         println!(rt; "{headline}")?;
-        bytes = rest;
     }
     Ok(())
 }

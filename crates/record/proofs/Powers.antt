@@ -5,9 +5,6 @@ use native.Mathlib.Nat.{pow-zero, pow-le-pow_right}
 pub pow_more : (b i p : ℕ) → p ≡ b ^ i → p * b ≡ b ^ (i + 1)
 pow_more b i p e = ap (λ n. n * b) e ∙ sym (pow-suc b i) ∙ ap (λ n. b ^ n) (sym (add-one i))
 
-pub pow_none : (b : ℕ) → 1 ≡ b ^ 0
-pow_none b = sym (pow-zero b)
-
 pub pow_le : (b i n : ℕ) → 0 < b → i ≤ n → b ^ i ≤ b ^ n
 pow_le b i n pos h = pow-le-pow_right pos h
 

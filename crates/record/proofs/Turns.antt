@@ -1,15 +1,16 @@
--- One turn of the loops over the objects of a state.
-use Rattle.std.proofs.Common.{◌≡◌, ℕ, suc, ◌+◌, ◌-◌, ◌*◌, ◌/◌, ◌%◌, ◌^◌, ◌<◌, ◌≤◌, Bool, true, false, cond, ◌&&◌, ltb, List, [], ◌∷◌, ◌++◌, map, length, get_or, drop, Some, None, sym, refl, ap, ◌∙◌, add_assoc, mul_comm, arith}
+-- One turn of the loop over the objects of a state, and the objects of a number.
+use Rattle.std.proofs.Common.{◌≡◌, ℕ, suc, ◌+◌, ◌*◌, ◌/◌, ◌%◌, ◌^◌, ◌<◌, ◌≤◌, Bool, true, false, cond, ◌&&◌, List, [], ◌∷◌, map, length, get_or, drop, Some, None, sym, refl, ap, ◌∙◌, add_assoc, mul_comm, arith}
+use native.Mathlib.Nat.{pow-zero, div-div-eq-div-mul}
 use lib.Arith.{digits_lt}
-use Rattle.std.proofs.lemmas.List.{drop_more, drop_all, append_assoc}
-use Rattle.std.proofs.lemmas.Bool.{lt-ltb, cond-true}
+use Rattle.std.proofs.Math.Nat.{div-one}
+use Rattle.std.proofs.lemmas.List.{drop_more, drop_all}
 use Rattle.scheme.specs.Sizes.{size_states}
 use Rattle.codes.specs.Objects.{ObjectState, object_fits}
 use Rattle.codes.specs.Codes.{code, object_from}
 use Rattle.codes.proofs.Digits.{code_below}
-use Rattle.enforcement.specs.Enforcement.{State}
 use Rattle.enforcement.proofs.Fitting.{none_some}
 use Rattle.record.specs.States.{all_fit, number_from, state_from}
+use Rattle.record.specs.Places.{Places}
 use Rattle.record.specs.Numberings.{summed_from}
 use Rattle.record.proofs.Powers.{pow_more}
 
@@ -56,23 +57,20 @@ sum_all f ks xs i sum h =
     let more : sum ≡ sum + 0 = omega arith in
     ap Some more ∙ sym (ap (λ l. summed_from sum i ks (map f l)) (drop_all i xs h))
 
--- The objects of a number: t are those so far.
-pub state_more : (ks : List ℕ) (n i rest : ℕ) (t t' whole : State) (x : ObjectState) → i < n
-    → x ≡ object_from ks (rest % size_states ks) → t' ≡ t ++ x ∷ []
-    → t ++ state_from ks (n - i) rest ≡ whole
-    → t' ++ state_from ks (n - (i + 1)) (rest / size_states ks) ≡ whole
-state_more ks n i rest t t' whole x h is-object grown inv =
-    let left : n - i ≡ suc (n - (i + 1)) = omega arith in
-    ap (λ l. l ++ state_from ks (n - (i + 1)) (rest / size_states ks)) grown
-    ∙ append_assoc t (x ∷ []) (state_from ks (n - (i + 1)) (rest / size_states ks))
-    ∙ ap (λ y. t ++ y ∷ state_from ks (n - (i + 1)) (rest / size_states ks)) is-object
-    ∙ ap (λ k. t ++ state_from ks k rest) (sym left)
-    ∙ inv
+-- The objects of a number, by their places.
+module _ (ks : List ℕ) (m : ℕ) where
+  read_from : (i : ℕ) (ps : List ℕ) → ((k : ℕ) → k < length ps → get_or ps k 0 ≡ size_states ks ^ (i + k))
+      → map (λ p. object_from ks (m / p % size_states ks)) ps ≡ state_from ks (length ps) (m / size_states ks ^ i)
+  read_from i [] h = refl
+  read_from i (p ∷ ps) h =
+      let b = size_states ks in
+      let object : ℕ → ObjectState = λ p. object_from ks (m / p % b) in
+      let first : p ≡ b ^ i = h 0 (omega arith) ∙ ap (λ k. b ^ k) (omega arith) in
+      let next : m / b ^ (i + 1) ≡ m / b ^ i / b = sym (div-div-eq-div-mul m (b ^ i) b ∙ ap (λ k. m / k) (pow_more b i (b ^ i) refl)) in
+      let rest : map object ps ≡ state_from ks (length ps) (m / b ^ (i + 1)) = read_from (i + 1) ps (λ k l. h (suc k) (omega arith) ∙ ap (λ n. b ^ n) (omega arith)) in
+      ap (λ p. object p ∷ map object ps) first ∙ ap (λ t. object (b ^ i) ∷ t) (rest ∙ ap (state_from ks (length ps)) next)
 
--- what a code below their count stands for
-pub object_known : {X : Type 0} (f : X → ObjectState) (ks : List ℕ) (c : ℕ) (x : X) → c < size_states ks
-    → Some (f x) ≡ cond (ltb c (size_states ks)) (Some (object_from ks c)) None → f x ≡ object_from ks c
-object_known f ks c x h e = let g = e ∙ cond-true _ _ _ (lt-ltb c (size_states ks) h) in cc
-
-pub object_there : (ks : List ℕ) (c : ℕ) → c < size_states ks → None ≡ cond (ltb c (size_states ks)) (Some (object_from ks c)) None → ⊥
-object_there ks c h e = none_some (object_from ks c) (e ∙ cond-true _ _ _ (lt-ltb c (size_states ks) h))
+  pub state_read : (ps : List ℕ) → Places (size_states ks) ps → map (λ p. object_from ks (m / p % size_states ks)) ps ≡ state_from ks (length ps) m
+  state_read ps h =
+      let whole : m / size_states ks ^ 0 ≡ m = ap (λ n. m / n) (pow-zero (size_states ks)) ∙ div-one m in
+      read_from 0 ps (λ k l. h k l ∙ ap (λ n. size_states ks ^ n) (omega arith)) ∙ ap (state_from ks (length ps)) whole

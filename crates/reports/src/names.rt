@@ -1,4 +1,5 @@
-// Names by the numbers of their entries; no byte where there is no such entry.
+// Names by the numbers of their entries; no byte where there is no such entry, and no `Option`: the
+// definitions are total, and what is printed names entries alone.
 ghost use Rattle.std.specs.Prelude.{◌≡◌, [], map, slice_index_or};
 ghost use Rattle.scheme.specs.Models.{names_of};
 ghost use Rattle.scheme.specs.Drafts.{draft_of};

@@ -15,7 +15,8 @@ use text::read::read;
 
 // Appends the report of a text, or its refusal. Want of memory is the only other answer, and it can
 // come only where the bytes had no room. `accepted`: what a text declares that is read is always
-// accepted as a scheme record, so no text is refused but by the reader.
+// accepted as a scheme record, so no text is refused but by the reader. The two steps, reading and making
+// the record, are those of `bench_analyse`, which goes on otherwise at a refusal.
 pub fn annex(out: &mut Vec<u8>, text: &[u8]) -> Result<(), AllocError>
     ensures report { Appended result out.old out.new (annex_output text.now) }
     ensures accepted { (m : SchemeModel) → reading text.now ≡ Ok m → accepted m ≡ true }

@@ -1,6 +1,6 @@
 -- The last policy of a table.
-use Rattle.std.proofs.Common.{◌≡◌, ℕ, zero, suc, ◌+◌, ◌-◌, Bool, true, false, cond, List, [], ◌∷◌, map, length, Some, None, Option, Err, Result, is_ok, unwrap_or, set, slice_get, MatchOption, Bor, ◌≤◌, sym, ap, ◌∙◌, arith}
-use Rattle.std.specs.Option.{option_copied}
+use Rattle.std.proofs.Common.{◌≡◌, ℕ, zero, suc, ◌+◌, ◌-◌, Bool, true, false, cond, List, [], ◌∷◌, map, length, Some, None, Option, Ok, Result, is_ok, set, slice_get, MatchOption, Bor, ◌≤◌, sym, ap, ◌∙◌, arith}
+use Rattle.std.specs.Option.{option_copied, ok_or}
 use Rattle.std.proofs.lemmas.Option.{slice_get-get_or}
 use Rattle.bounded.specs.declared.full.Full.{Full}
 use Rattle.scheme.specs.declared.terms.Clause.{Clause}
@@ -35,12 +35,12 @@ last_asked room (y ∷ ys) (Some p) r is told = told ∙ sym (last_room_at room 
 pub last_lent : (clause : Clause) (G : Policy → Result Unit Full → Policy → Type 0) (xs ys : List Policy) (n : ℕ) (o : Option (Result Unit Full)) (full : Full) (out : Result Unit Full) → n + 1 ≡ length xs
     → ((x : Policy) (r : Result Unit Full) (y : Policy) → G x r y → (is_ok r ≡ has_room clause (policy_of x)) × (policy_of y ≡ cond (is_ok r) (filled clause (policy_of x)) (policy_of x)))
     → MatchOption o ((length xs ≤ n) × (ys ≡ xs)) (λ r. (x : Policy) × (y : Policy) × (slice_get xs n ≡ Some x) × G x r y × (ys ≡ set xs n y))
-    → out ≡ unwrap_or o (Err full)
+    → Ok out ≡ ok_or o full
     → (is_ok out ≡ last_room (has_room clause) (map policy_of xs)) × (map policy_of ys ≡ cond (is_ok out) (last_filled clause (map policy_of xs)) (map policy_of xs))
 last_lent clause G xs ys n None full out last fills lent is_out = absurd (omega arith)
 last_lent clause G xs ys n (Some r) full out last fills (x, y, is, gave, left) is_out =
     let told = fills x r y gave in
-    let same : is_ok r ≡ is_ok out = ap is_ok (sym is_out) in (
+    let same : is_ok r ≡ is_ok out = cc in (
       sym same ∙ told.0 ∙ sym (last_room_at (has_room clause) xs n x last is),
       ap (map policy_of) left ∙ last_set clause (is_ok out) xs n x y last is (told.1 ∙ ap (λ b. cond b (filled clause (policy_of x)) (policy_of x)) same),
     )

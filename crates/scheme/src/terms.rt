@@ -14,7 +14,8 @@ pub struct Term {
     pub attribute: u8,
 }
 
-// What a predicate compares with, and what an action assigns: three cases, as the project has them.
+// What a predicate compares with, and what an action assigns. Three cases, and no `Term` in two of them: a
+// form that the decisions fix (docs/DECISIONS.md, Forms).
 #[derive(Clone, Copy)]
 pub enum Operand {
     SubjectAttribute(u8),

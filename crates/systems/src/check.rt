@@ -10,6 +10,16 @@ use super::numbers::Numbers;
 use super::refusals::TableRefusal;
 use protection::Permission;
 
+// The bounds that the interface has for walks and labels. `scheme` has the first one for schemes, of which
+// this crate knows nothing.
+const MAX_STATES: u32 = 1_048_576;
+
+const MAX_MOVES: u32 = 4_096;
+
+const MAX_OBJECTS: u32 = 255;
+
+const MAX_RIGHTS: u32 = 255;
+
 impl Numbers<'_> {
     // Refuses with the first refusal that applies.
     #[tactic(auto, unfolding(crate::specs::Tables::refusal))]
@@ -38,10 +48,10 @@ impl Numbers<'_> {
         ensures { result ≡ counts_out self.now.states self.now.moves self.now.objects self.now.rights }
     {
         self.states < 1
-            || self.states > 1048576
-            || self.moves > 4096
-            || self.objects > 255
-            || self.rights > 255
+            || self.states > MAX_STATES
+            || self.moves > MAX_MOVES
+            || self.objects > MAX_OBJECTS
+            || self.rights > MAX_RIGHTS
     }
 
     // The lengths are compared in 64 bits, since states times moves may need 33.

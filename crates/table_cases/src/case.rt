@@ -35,7 +35,7 @@ pub(crate) struct Case {
     pub(crate) questions: Vec<Question>,
 }
 
-// The number at a place of a line, or 0.
+// The number at a place of a line; one that is missing counts as 0.
 pub(crate) fn number_at(numbers: &[u32], place: usize) -> u32
     ensures { result ≡ slice_index numbers.now place }
 {

@@ -1,4 +1,5 @@
-// What is printed of answers and tables.
+// What is printed of answers and tables. By functions and no `Display`: the types are of other crates, and
+// such an `impl` is refused.
 use protection::{Numbered, Verdict};
 use std::io;
 use systems::TableRefusal;

@@ -1,4 +1,5 @@
-// What a line without a fault declares.
+// What a line without a fault declares. A word of another form than its place asks for stands for something
+// all the same, as in the definitions, which are total: no such line is read.
 ghost use Rattle.std.specs.Prelude.{◌≡◌};
 ghost use Rattle.bounded.specs.Items.{items};
 ghost use Rattle.scheme.specs.Declarations.{kind_of, with_declaration};
@@ -78,16 +79,13 @@ impl<'a> Candidate<'a> {
         }
     }
 
-    // A value or null for each attribute, which an attribute past the last word has too: so the
-    // words are not gone through beside the attributes.
+    // A value or null for each attribute, by the words from index 2 on. An attribute past the last
+    // word has one too: so the words are not gone through beside the attributes.
     fn values(self) -> Bounded<Option<u8>, 4>
         ensures { items result ≡ values_at 2 (above self.entry).attributes (its_words self.entry) }
     {
-        let mut values = Bounded::new(None);
-        for attribute in 0..self.draft.attributes().len() {
-            values.push(value_of(self.word(attribute + 2))).unwrap();
-        }
-        values
+        let indices = 2..2 + self.draft.attributes().len();
+        Bounded::collect(None, indices.map(|index| value_of(self.word(index)))).unwrap()
     }
 
     fn object(self) -> Object

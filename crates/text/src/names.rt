@@ -79,7 +79,7 @@ impl<'a> Candidate<'a> {
         }
     }
 
-    // The size of an attribute; 0 where there is no such attribute.
+    // The size of an attribute; 0 where there is no such attribute: no `Option`, as the definition is total.
     #[tactic(auto, using(crate::proofs::Sizes::size_in, crate::proofs::Sizes::size_past))]
     fn attribute_size(self, attribute: usize) -> u8
         ensures { result ≡ size_at (above self.entry) attribute }

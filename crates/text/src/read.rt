@@ -37,7 +37,8 @@ fn read_text(scheme: &mut Scheme, text: &[u8]) -> Result<(), SchemeFault>
     Ok(())
 }
 
-// Reads a text. An accepted one replaces all that the scheme held; a refused one leaves it as it was.
+// Reads a text. An accepted one replaces all that the scheme held; a refused one leaves it as it was. The
+// scheme is lent, and none is answered: a rule of the project (docs/TEXT.md).
 // `lawful`: the answer is the one that the table of refusals gives, and the table gives no other.
 pub fn read(scheme: &mut Scheme, text: &[u8]) -> Result<(), SchemeFault>
     ensures result { after result (scheme_of scheme.new) ≡ reading text.now }

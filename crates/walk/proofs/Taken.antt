@@ -38,7 +38,6 @@ module _ (walk : Walk) (stop : ℕ → Bool) (marks : List ℕ) (table before : 
       → Searching walk stop marks' table' before count' place' m
   from_before marks' table' count' place' m grows s = record {
     kept = s.kept;
-    marked = s.marked;
     marks_size = s.marks_size;
     table_size = s.table_size;
     fits = s.fits;
@@ -82,10 +81,8 @@ module _ (walk : Walk) (stop : ℕ → Bool) (first : Listing) where
       → so_far l ≡ found_of (search_from walk stop) → Halted walk stop first l
   halted l place m s same list = record {
     list = list;
-    marked = s.marked;
     size = same.marks_length;
     some = omega (arith, s.kept.some, length-take-le l.count l.table.now s.fits);
-    fits = s.fits;
     rest = s.rest;
   }
 

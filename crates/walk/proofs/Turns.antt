@@ -9,7 +9,7 @@ use Rattle.walk.proofs.Invariant.{room, turn, next}
 use Rattle.walk.proofs.Steps.{move_more, move_done}
 use Rattle.walk.specs.declared.listing.Listing.{Listing}
 use Rattle.walk.specs.Listings.{SameTables}
-use Rattle.walk.specs.Tables.{from_place, from_move, Marked, Trying, Stopping, Passing}
+use Rattle.walk.specs.Tables.{from_place, from_move, Trying, Stopping, Passing}
 
 pub drop_later : {X : Type 0} (n k : ℕ) (xs ys : List X) → n ≤ k → drop n xs ≡ drop n ys → drop k xs ≡ drop k ys
 drop_later n k xs ys h e =
@@ -53,12 +53,11 @@ module _ (walk : Walk) (bounded : Bounds walk) (stop : ℕ → Bool) (before : L
 
     pub try_more : (marks' : List ℕ) (table' : List Found) (count' : ℕ) → m < walk.moves → ends walk stop (take count table) place m ≡ false
         → take count' table' ≡ after_try walk (take count table) place m → drop count' table' ≡ drop count' table
-        → length table' ≡ length table → length marks' ≡ length marks → count' ≤ length table' → count ≤ count' → Marked marks' (take count' table')
+        → length table' ≡ length table → length marks' ≡ length marks → count' ≤ length table' → count ≤ count'
         → Trying walk stop marks' table' before listed' count' place (m + 1)
-    try_more marks' table' count' h goes list rest size-t size-m fits grows marked = record {
+    try_more marks' table' count' h goes list rest size-t size-m fits grows = record {
       searching = record {
         kept = rw list (turn walk bounded stop (take count table) place m t.searching.kept here_list goes);
-        marked = marked;
         marks_size = size-m ∙ t.searching.marks_size;
         table_size = size-t ∙ t.searching.table_size;
         fits = fits;
@@ -104,7 +103,6 @@ module _ (walk : Walk) (bounded : Bounds walk) (stop : ℕ → Bool) (before : L
     try_passes all = record {
       searching = record {
         kept = next walk bounded stop (take count table) place m t.searching.kept here_list all;
-        marked = t.searching.marked;
         marks_size = t.searching.marks_size;
         table_size = t.searching.table_size;
         fits = t.searching.fits;
@@ -123,13 +121,13 @@ module _ (walk : Walk) (bounded : Bounds walk) (stop : ℕ → Bool) (before : L
         Trying walk stop marks' table' before listed' count' place (m + 1) × (state_at (take count table) place ≡ state_at (take count' table') place)
 
     pub none_turn : walk.step (state_at (take count table) place) m ≡ None → m < walk.moves → Turned marks table count
-    none_turn e h = (try_more marks table count h (none_goes e) (none_list e) refl refl refl t.searching.fits (omega arith) t.searching.marked, refl)
+    none_turn e h = (try_more marks table count h (none_goes e) (none_list e) refl refl refl t.searching.fits (omega arith), refl)
 
     pub some_turn : (u : ℕ) → walk.step (state_at (take count table) place) m ≡ Some u → stop m ≡ false → m < walk.moves
         → (marks' : List ℕ) (table' : List Found) (count' : ℕ) → take count' table' ≡ with_next (take count table) place m (Some u)
         → drop count' table' ≡ drop count' table → length table' ≡ length table → length marks' ≡ length marks → count' ≤ length table' → count ≤ count'
-        → Marked marks' (take count' table') → Turned marks' table' count'
-    some_turn u e s h marks' table' count' list rest size-t size-m fits grows marked = (
-      try_more marks' table' count' h (unstopped_goes s) (list ∙ some_list u e) rest size-t size-m fits grows marked,
+        → Turned marks' table' count'
+    some_turn u e s h marks' table' count' list rest size-t size-m fits grows = (
+      try_more marks' table' count' h (unstopped_goes s) (list ∙ some_list u e) rest size-t size-m fits grows,
       sym (try_state table' count' (list ∙ some_list u e)),
     )

@@ -13,7 +13,7 @@ use Rattle.walk.specs.Results.{mark, ending_of, found_of, marks_of, over}
 module _ (walk : Walk) (stop : ℕ → Bool) (l l' : Listing) (h : Halted walk stop l l') where
   pub marks_end : length l.marks.now ≡ walk.states → l'.marks.now ≡ marks_of walk.states (found_of (search_from walk stop))
   marks_end size =
-      fill_by_all (mark (so_far l')) l'.marks.now walk.states 0 (h.size ∙ size) (λ k below. h.marked k (omega (arith, h.size)))
+      fill_by_all (mark (so_far l')) l'.marks.now walk.states 0 (h.size ∙ size) (λ k below. l'.marked k (omega (arith, h.size)))
       ∙ ap (λ (xs : List Found). marks_of walk.states xs) h.list
 
 pub stopped_ending : (o : Outcome) (found : List Found) (witness : List ℕ) (count tried total : ℕ) → o ≡ stopped found tried witness

@@ -1,11 +1,11 @@
 -- The tables of a search in progress, for the contracts of its own functions.
-use Rattle.std.specs.Prelude.{◌≡◌, ℕ, ◌<◌, ◌≤◌, Bool, List, length, take, drop}
+use Rattle.std.specs.Prelude.{◌≡◌, ℕ, ◌<◌, Bool, List, length, take, drop}
 use Rattle.walk.specs.declared.records.Found.{Found}
 use Rattle.walk.specs.declared.listing.Listing.{Listing}
 use Rattle.walk.specs.Walks.{Walk}
 use Rattle.walk.specs.Search.{search_from}
 use Rattle.walk.specs.Results.{found_of}
-use Rattle.walk.specs.Tables.{Marked, Searching, Stopping, Passing, Taking}
+use Rattle.walk.specs.Tables.{Searching, Stopping, Passing, Taking}
 
 -- the states listed so far
 abbrev pub so_far : Listing → List Found
@@ -37,8 +37,6 @@ Begun walk stop l = Taking walk stop l.marks.now l.table.now l.table.now l.count
 -- the search that began with l is over: the states of its outcome are listed, and the rest of the found table is as it was
 pub record Halted (walk : Walk) (stop : ℕ → Bool) (l l' : Listing) : Type 0 where
   pub list : so_far l' ≡ found_of (search_from walk stop)
-  pub marked : Marked l'.marks.now (so_far l')
   pub size : length l'.marks.now ≡ length l.marks.now
   pub some : 0 < l'.count
-  pub fits : l'.count ≤ length l'.table.now
   pub rest : drop l'.count l'.table.now ≡ drop l'.count l.table.now

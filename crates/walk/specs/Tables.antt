@@ -21,7 +21,6 @@ Marked marks found = (s : ℕ) → s < length marks → slice_index marks s ≡ 
 -- the tables as the move m is to be tried in the state at `place`: `count` states are listed, and the rest of the found table is as `before`
 pub record Searching (walk : Walk) (stop : ℕ → Bool) (marks : List ℕ) (table before : List Found) (count place m : ℕ) : Type 0 where
   pub kept : Kept walk stop (take count table) place m
-  pub marked : Marked marks (take count table)
   pub marks_size : length marks ≡ walk.states
   pub table_size : length table ≡ walk.states
   pub fits : count ≤ length table

@@ -15,6 +15,7 @@ pub trait Walk {
     fn moves(&self) -> u32
         ensures { result ≡ (model self.now).moves };
 
+    // A state and a move, and no struct of both: a search has each by itself.
     fn step(&self, state: u32, mv: u32) -> Option<u32>
         ensures { result ≡ (model self.now).step state mv };
 

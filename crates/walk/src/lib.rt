@@ -18,8 +18,9 @@ use tries::Search;
 
 // Lists the states that the walk reaches, in breadth-first order, until an enabled move meets
 // the goal; then the witness begins with the moves to it. None, and nothing is changed, where a
-// table has fewer entries than the walk has states. The three tables are lent slices wherever a search is
-// asked for, as the project has them: their callers hold them apart.
+// table has fewer entries than the walk has states. The three tables are slices lent one by one wherever a
+// search is asked for, and no struct: a rule of the project, since a caller in C lends them so
+// (docs/DECISIONS.md, Forms).
 pub fn search<W: Walk, G: Goal>(
     walk: &W,
     goal: &G,

@@ -14,7 +14,7 @@ fn depth(found: &[Found], place: u32) -> u32
 {
     let mut at = place;
     let mut steps: u32 = 0;
-    // no chain of `successors`, which would have to test again that each parent is a place of the table
+    // no chain of `successors`, which is endless as far as a contract knows, and so cannot be counted
     while at != 0 {
         at = found[at as usize].parent;
         steps += 1;
@@ -35,7 +35,7 @@ pub(crate) fn write_witness(found: &[Found], place: u32, mv: u32, witness: &mut 
     let depth = depth(found, place);
     witness[depth as usize] = mv;
     let mut at = place;
-    // by index, since a proof knows nothing of the entries once they were written through `iter_mut`
+    // by index, since a proof knows nothing of the entries once they were written through `iter_mut().rev()`
     for left in (0..depth).rev() {
         let step = found[at as usize];
         witness[left as usize] = step.mv;

@@ -28,21 +28,14 @@ fn is_name(word: &[u8]) -> bool
     }
 }
 
-// The number that a word writes: 0 to 255 without leading zeros. Not by `parse`, which takes leading zeros
-// and a sign: they would have to be kept out first.
+// The number that a word writes: 0 to 255 without leading zeros. `parse` takes leading zeros and a plus too:
+// the pattern keeps them out.
 fn number_in(word: &[u8]) -> Option<u8>
     ensures { result ≡ number_in word.now }
 {
     match word {
-        [a] if a.is_ascii_digit() => Some(*a - b'0'),
-        [a, b] if *a > b'0' && a.is_ascii_digit() && b.is_ascii_digit() => Some(
-            10 * (*a - b'0') + (*b - b'0'),
-        ),
-        [a, b, c] if *a > b'0' && a.is_ascii_digit() && b.is_ascii_digit() && c.is_ascii_digit() =>
-            {
-                let n = 100 * (*a - b'0') as u16 + 10 * (*b - b'0') as u16 + (*c - b'0') as u16;
-                u8::try_from(n).ok()
-            }
+        [b'0'] => Some(0),
+        [b'1'..=b'9', ..] => str::from_utf8(word).ok()?.parse().ok(),
         _ => None,
     }
 }

@@ -2,6 +2,7 @@
 use crate::position::Word;
 use scheme::terms::{Comparison, Party};
 
+// No `Option` of a comparison: `-` is an operator of the format (docs/DECISIONS.md, Forms).
 #[derive(Clone, Copy)]
 pub enum Operator {
     Compare(Comparison),

@@ -17,6 +17,7 @@ impl Codes {
     {
         let mut digits = Bounded::new(Digit { size: 0, weight: 1 });
         // The product of size + 1 over the attributes so far. Four sizes are at most 2 to the power 32.
+        // No chain: the product is each digit's weight, and at the end counts the codes.
         let mut weight = 1;
         for size in sizes.as_slice() {
             digits

@@ -10,7 +10,7 @@ ghost use Rattle.codes.specs.Meanings.{object_of, sizes_in};
 
 use super::Codes;
 use crate::digit::{part_of, value_of};
-use crate::object::{ObjectState, Values};
+use crate::object::{ABSENT, ObjectState, Values};
 use bounded::Bounded;
 
 impl Codes {
@@ -30,7 +30,7 @@ impl Codes {
             return None;
         }
         match code {
-            0 => Some(ObjectState::Absent),
+            ABSENT => Some(ObjectState::Absent),
             code => Some(ObjectState::There(self.values_from(code - 1))),
         }
     }
@@ -45,6 +45,7 @@ impl Codes {
             return None;
         }
         let mut sum = 0;
+        // no `try_fold`, which is no plainer: its closure would have to state how large the sum can be
         for (digit, value) in digits.iter().zip(values) {
             if !digit.fits(*value) {
                 return None;
@@ -59,7 +60,7 @@ impl Codes {
         ensures { result ≡ (if object_fits (sizes_in self.now) (object_of object.now) then Some (code (sizes_in self.now) (object_of object.now)) else None) }
     {
         match object {
-            ObjectState::Absent => Some(0),
+            ObjectState::Absent => Some(ABSENT),
             ObjectState::There(values) => Some(1 + self.weigh(values.as_slice())?),
         }
     }

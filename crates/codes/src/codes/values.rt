@@ -9,6 +9,7 @@ ghost use Rattle.codes.specs.Meanings.{sizes_in};
 
 use super::Codes;
 use crate::digit::{Digit, part_of, value_of};
+use crate::object::ABSENT;
 
 // A code and the number of an attribute stand side by side, and no struct has both: of one code several
 // attributes are read, and the caller has each by itself.
@@ -20,7 +21,8 @@ impl Codes {
         self.digits.as_slice().get(attribute as usize)
     }
 
-    // Null, or a value below the size of the attribute, which is 0 where there is no such attribute.
+    // Null, or a value below the size of the attribute, which is 0 where there is no such attribute. Total
+    // here and below, as the definitions are.
     fn fits(&self, attribute: u8, value: Option<u8>) -> bool
         ensures { result ≡ value_fits (slice_index (sizes_in self.now) attribute) value }
     {
@@ -48,7 +50,7 @@ impl Codes {
     pub fn read(&self, code: u32, attribute: u8) -> Option<Option<u8>>
         ensures { result ≡ read_at (object_from (sizes_in self.now) code) attribute }
     {
-        if code == 0 {
+        if code == ABSENT {
             return None;
         }
         Some(self.value(code, attribute))
@@ -59,7 +61,7 @@ impl Codes {
     pub fn update(&self, code: u32, attribute: u8, value: Option<u8>) -> Option<u32>
         ensures { result ≡ updated_code (sizes_in self.now) code attribute value }
     {
-        if code == 0 || code >= self.radix || !self.fits(attribute, value) {
+        if code == ABSENT || code >= self.radix || !self.fits(attribute, value) {
             return None;
         }
         let Some(digit) = self.digit(attribute) else {

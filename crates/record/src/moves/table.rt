@@ -7,19 +7,17 @@ ghost use Rattle.record.specs.Moves.{move_at};
 use super::{Move, move_at};
 use bounded::Bounded;
 
+// At most 8 objects, as in `Numbering::of`.
 pub(crate) fn moves_of(objects: u32, policies: u32) -> Bounded<Move, 2048>
     requires objects { objects ≤ 8 }
     requires policies { policies ≤ 32 }
     ensures { items result ≡ map (move_at objects) (range_with_len 0 (objects * objects * policies)) }
 {
-    let mut moves = Bounded::new(Move {
+    let filler = Move {
         policy: 0,
         subject: 0,
         object: 0,
-    });
-    // no `collect`, of which the check does not find that at most 2,048 come
-    for mv in 0..objects * objects * policies {
-        moves.push(move_at(objects as u8, mv)).unwrap();
-    }
-    moves
+    };
+    let numbers = 0..objects * objects * policies;
+    Bounded::collect(filler, numbers.map(|mv| move_at(objects as u8, mv))).unwrap()
 }

@@ -30,12 +30,7 @@ fn places_of(radix: u32, objects: u32) -> Bounded<u32, 8>
     ensures places { Places radix (items result) }
     ensures count { length (items result) ≡ objects }
 {
-    let mut places = Bounded::new(1);
-    // no `collect`: that no power overflows holds of these objects alone, which a closure does not know
-    for object in 0..objects {
-        places.push(radix.pow(object)).unwrap();
-    }
-    places
+    Bounded::collect(1, (0..objects).map(|object| radix.pow(object))).unwrap()
 }
 
 impl Numbering {

@@ -25,6 +25,7 @@ impl Numbering {
         ensures { result ≡ summed_from 0 0 (dimensions_of self.now).sizes (map object_of objects.now) }
     {
         let mut sum = 0;
+        // no `try_fold`, which is no plainer: its closure would have to state how large the sum can be
         for (object, place) in objects.iter().zip(self.places.as_slice()) {
             let code = self.codes.code(object)?;
             sum += code * *place;
@@ -50,12 +51,10 @@ impl Numbering {
         if number >= self.states {
             return None;
         }
+        // A remainder is below the count of codes, and so the code of an object.
         let radix = self.codes.radix();
-        let mut state = Bounded::new(ObjectState::Absent);
-        for place in self.places.as_slice() {
-            let object = self.codes.object(number / *place % radix)?;
-            state.push(object).unwrap();
-        }
-        Some(state)
+        let places = self.places.as_slice().iter();
+        let objects = places.map(|place| self.codes.object(number / *place % radix).unwrap());
+        Some(Bounded::collect(ObjectState::Absent, objects).unwrap())
     }
 }

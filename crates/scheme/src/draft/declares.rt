@@ -33,11 +33,9 @@ impl Draft {
         ensures room { is_ok result ≡ last_room (has_room clause) (draft_of self.old).policies }
         ensures after { draft_of self.new ≡ (if is_ok result then with_policies (last_filled clause (draft_of self.old).policies) (draft_of self.old) else draft_of self.old) }
     {
-        let Some(last) = self.policies.as_slice().len().checked_sub(1) else {
-            return Err(Full);
-        };
+        let last = self.policies.as_slice().len().checked_sub(1).ok_or(Full)?;
         self.policies
             .lend(last, |policy| policy.fill(clause))
-            .unwrap_or(Err(Full))
+            .ok_or(Full)?
     }
 }

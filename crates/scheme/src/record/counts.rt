@@ -4,9 +4,11 @@ ghost use Rattle.std.specs.Prelude.{◌≡◌, ◌*◌, min};
 ghost use Rattle.scheme.specs.Counts.{combinations, state_count};
 ghost use Rattle.scheme.specs.Drafts.{draft_of};
 
+use super::MAX_STATES;
 use crate::draft::Draft;
 
-const CAP: u64 = 1_048_577;
+// Stands for every greater count: a plain product, where an `Option` would be carried through two folds.
+const CAP: u64 = MAX_STATES as u64 + 1;
 
 // A product, or CAP where it is greater.
 fn mul_capped(a: u64, b: u64) -> u64

@@ -52,7 +52,8 @@ impl<'a> Line<'a> {
         }
     }
 
-    // The word at an index from 0; an empty one where the line has no such word.
+    // The word at an index from 0; an empty one where the line has no such word. No `Option`: the definition
+    // is total, and callers ask only for words that are there.
     pub fn word(self, index: usize) -> Word<'a>
         ensures { word_of result ≡ word_in (line_words self.entry) index }
     {

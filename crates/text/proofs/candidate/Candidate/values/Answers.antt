@@ -1,17 +1,23 @@
-use Rattle.std.proofs.Common.{◌<◌, length, is_ok, ap, ◌∙◌, arith}
-use Rattle.bounded.specs.Items.{items}
+use Rattle.std.proofs.Common.{◌+◌, length, ◌∙◌, arith, rules}
+use Rattle.std.proofs.iter.runs.Sources.{ranges}
+use Rattle.std.proofs.lemmas.Iterator.{YieldsList-from_range, YieldsList-from_map}
+use Rattle.bounded.proofs.Collects.{collected}
 use Rattle.scheme.specs.Models.{attribute_of}
 use Rattle.scheme.proofs.Lists.{count_of}
+use Rattle.words.specs.Positions.{word_in}
 use Rattle.text.specs.Candidates.{above, its_words}
 use Rattle.text.specs.Declaring.{value_in}
-use Rattle.text.proofs.Copying.{values_more}
+use Rattle.text.proofs.Copying.{values_listed}
 use Rattle.text.proofs.candidate.Candidate.values.Goals as goal
 
-pub loop-attribute-preserved : goal.loop-attribute-preserved
-loop-attribute-preserved c =
+pub unwrap-requires : goal.unwrap-requires
+unwrap-requires c = search (rules, ranges)
+
+pub returns : goal.returns
+returns c =
     let al = (above c.args.self).attributes in
-    let i = c.loop-attribute.attribute in
-    let slice = c.attributes-attribute-end.result.now in
-    let h : i < length al = omega (arith, count_of attribute_of slice al c.attributes-attribute-end.ensures.list) in
-    let few : i < 4 = omega (arith, c.attributes-attribute-end.ensures.few) in
-    values_more al (its_words c.args.self) i (items c.loop-attribute.values) c.loop-attribute.invariant.0 (items c.push.new.self) c.value_of.result (is_ok c.push.result) h few c.loop-attribute.invariant.1 (c.value_of.ensures ∙ ap value_in c.word.ensures) c.push.ensures.room c.push.ensures.after
+    let ws = its_words c.args.self in
+    let slice = c.attributes.result.now in
+    collected 4 c.collect.result c.unwrap.result c.collect.ensures c.unwrap.ensures
+    (YieldsList-from_map _ (λ i. value_in (word_in ws i)) (YieldsList-from_range 2 (2 + length slice) (length al) (cc) (omega (arith, count_of attribute_of slice al c.attributes.ensures.list))) c.map.ensures.closure (λ x r q k. search rules))
+    ∙ values_listed 2 al ws

@@ -30,7 +30,7 @@ loop-mv-preserved g c =
           w.in-Some.next (read ∙ w.in-Some.is) (sym w.is_met.ensures ∙ w.if-is_met.false) below
           w.note_next.new.self.marks.now w.note_next.new.self.table.now w.note_next.new.self.count
           w.note_next.ensures.list w.note_next.ensures.rest w.note_next.ensures.same.table_length w.note_next.ensures.same.marks_length
-          w.note_next.ensures.fits w.note_next.ensures.grows w.note_next.ensures.marked in
+          w.note_next.new.self.fits w.note_next.ensures.grows in
           rw w.listing-is (t.0, c.loop-mv.invariant.1 ∙ t.1, turns.same_on c.loop-mv.invariant.2 w.note_next.ensures.same, c.loop-mv.invariant.3)
       | in_default w ↦
           let t = turns.none_turn walk bounds stop c.args.listing.now.table.now c.args.listing.now.count c.args.place
