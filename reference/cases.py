@@ -2,16 +2,13 @@
 """Test cases for the reader: texts with the first line of their report, worked out by hand from
 docs/TEXT.md and docs/REFUSALS.md.
 
-    cases.py [DIRECTORY]    checks every case against the reference program annex.py; then writes the
-                            files stdin and stdout into DIRECTORY (default: crates/reader_cases)
+    cases.py    checks every case against the reference program annex.py
 
-The files hold CASES and not LONG_CASES. stdin has for each case the length of the text in decimal, byte 10,
-the text, byte 10; stdout has for each case its outcome as one line.
+answers.py writes the texts of CASES, with their whole reports, into the files of a program.
 The name of a case begins with the number of the refusal, or with `ok` for an accepted text.
 """
 
 import sys
-from pathlib import Path
 
 sys.dont_write_bytecode = True
 import annex  # noqa: E402
@@ -453,22 +450,13 @@ def check_names(cases):
         assert name.split()[0] == number, f"the name of {name!r} begins with another number"
 
 
-def write_files(directory):
-    directory.mkdir(exist_ok=True)
-    stdin = b"".join(b"%d\n%b\n" % (len(text), text) for _, text, _ in CASES)
-    (directory / "stdin").write_bytes(stdin)
-    (directory / "stdout").write_text("".join(expected + "\n" for _, _, expected in CASES))
-    print(f"{directory}: stdin of {len(stdin)} bytes, stdout of {len(CASES)} lines")
-
-
-def main(arguments):
+def main():
     check_names(CASES + LONG_CASES)
     count = differing(CASES + LONG_CASES, annex.head, "\n")
     if count:
         sys.exit(f"{count} cases differ")
     print(f"{len(CASES)} cases and {len(LONG_CASES)} long cases, all as expected")
-    write_files(Path(arguments[0]) if arguments else Path(__file__).resolve().parent.parent / "crates/reader_cases")
 
 
 if __name__ == "__main__":
-    main(sys.argv[1:])
+    main()

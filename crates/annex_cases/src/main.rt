@@ -3,7 +3,7 @@
 #![tactic(auto)]
 
 use input::{Texts, read_up_to};
-use reports::annex;
+use report::annex;
 use std::io;
 use std::io::Write;
 

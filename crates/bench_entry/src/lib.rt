@@ -15,7 +15,6 @@ pub mod answer;
 use answer::Answer;
 use protection::{Numbered, Permission, Refusal, System, Verdict, analyse};
 use record::{Scheme, permission_asked};
-use scheme::record::Scheme as Declared;
 use text::read::read;
 use walk::Found;
 
@@ -36,13 +35,10 @@ pub extern "C" fn bench_analyse(
     ensures found { found.new ≡ found_left (asked_by text.now query) result found.old }
     ensures witness { witness.new ≡ witness_left (asked_by text.now query) result witness.old }
 {
-    // These steps stand in `reports::annex` too, which prints: one function for both would be no plainer, since
-    // the one goes on with a refusal where the other has its number.
-    let mut declared = Declared::bare();
-    if let Err(fault) = read(&mut declared, text) {
+    let mut scheme = Scheme::bare();
+    if let Err(fault) = read(&mut scheme, text) {
         return fault.report().number;
     }
-    let scheme = Scheme::of(*declared.draft()).unwrap();
     let Some(q) = asked(&scheme, query) else {
         return Refusal::OutOfCounts.number();
     };

@@ -1,4 +1,5 @@
 pub mod Digits
 pub mod Weighing
+mod Dividing
 mod Making
 mod Summing

@@ -18,7 +18,7 @@ module _ (ks : List ℕ) (at : ℕ) (w : ℕ) (inside : at < length ks) (few : l
   pub product_fits : w < 2 ^ 32
   product_fits = omega (arith, weight_before_last_fits ks at (omega arith) bytes)
 
-  module _ (ds ds' : List Digit) (d : Digit) (room : Bool) (so_far : digit_sizes ds ≡ take at ks) (is_size : d.size ≡ get_or ks at 0) (is_weight : d.weight ≡ w) (has_room : room ≡ ltb (length ds) 4) (left : ds' ≡ cond room (ds ++ d ∷ []) ds) where
+  module _ (ds ds' : List Digit) (d : Digit) (room : Bool) (so_far : digit_sizes ds ≡ take at ks) (is_size : d.size ≡ get_or ks at 0) (is_weight : d.weight.by ≡ w) (has_room : room ≡ ltb (length ds) 4) (left : ds' ≡ cond room (ds ++ d ∷ []) ds) where
     long : length ds ≡ at
     long = sym (length-map ds (λ (x : Digit). x.size)) ∙ ap length so_far ∙ length-take-le at ks (omega arith)
 

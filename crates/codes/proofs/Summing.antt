@@ -74,7 +74,7 @@ module _ (ds : List Digit) (vs : List (Option ℕ)) (weighed : Weighed ds) (even
     digit_unfit unfit = summed_unfit (digit_sizes ds) vs n sum evenly inside_sizes (sym (unfit ∙ test))
 
     pub digit_summed : (p next : ℕ) → p ≡ part v → true ≡ value_fits d.size v → sum < weight (digit_sizes ds) n → next ≡ n + 1
-        → (sum_left (sum + p * d.weight) next ≡ sum_left sum n) × (sum + p * d.weight < weight (digit_sizes ds) next)
+        → (sum_left (sum + p * d.weight.by) next ≡ sum_left sum n) × (sum + p * d.weight.by < weight (digit_sizes ds) next)
     digit_summed p next is_part fits low is_next =
-        let more = summed_more (digit_sizes ds) vs n sum evenly inside_sizes p d.weight (is_part ∙ ap part is_value) (weighed n d here) (sym (fits ∙ test)) low in
+        let more = summed_more (digit_sizes ds) vs n sum evenly inside_sizes p d.weight.by (is_part ∙ ap part is_value) (weighed n d here) (sym (fits ∙ test)) low in
         rw is_next more

@@ -1,11 +1,11 @@
 -- One part of a code: its weight, how it is read, and the code with another part in its place.
-use Rattle.std.proofs.Common.{◌≡◌, ℕ, zero, suc, ◌+◌, ◌-◌, ◌*◌, ◌/◌, ◌%◌, ◌^◌, ◌<◌, ◌≤◌, true, cond, List, [], ◌∷◌, ◌++◌, length, get_or, set, map, slice_get, Some, None, Option, MatchOption, Bor, sym, refl, ap, ◌∙◌, ⊎_elim, mul_assoc, mul_comm, add-mul, mul-le-mul, pow-suc, mul-one, one-mul, div-one, arith}
+use Rattle.std.proofs.Common.{◌≡◌, ℕ, zero, suc, ◌+◌, ◌-◌, ◌*◌, ◌/◌, ◌%◌, ◌^◌, ◌<◌, ◌≤◌, Bool, true, cond, is_none, List, [], ◌∷◌, ◌++◌, length, get_or, set, map, slice_get, Some, None, Option, MatchOption, Bor, sym, refl, ap, ◌∙◌, ⊎_elim, mul_assoc, mul_comm, add-mul, mul-le-mul, pow-suc, mul-one, one-mul, div-one, arith}
 use native.Mathlib.Nat.{mod-one, div-div-eq-div-mul, pow-zero, pow-le-pow_right}
 use Rattle.std.proofs.lemmas.List.{take_all, get_or_past, map_push, length-map, length_push, take-append-le}
 use Rattle.std.proofs.Math.ListN.{get_or-append}
 use Rattle.std.proofs.Math.Seq.{get_or-append_seam}
 use Rattle.std.proofs.lemmas.Option.{get_or_from_slice_get, slice_get-map, slice_get-get_or, slice_get_within}
-use Rattle.std.proofs.lemmas.Bool.{cases_lt, false≢true, and_parts, and_from, lt-ltb, ltb-true, cond-true}
+use Rattle.std.proofs.lemmas.Bool.{cases_lt, false≢true, and_parts, and_from, lt-ltb, le-ltb, ltb-true, cond-true}
 use Rattle.std.specs.Option.{option_map, option_copied}
 use Rattle.scheme.specs.Sizes.{size_combinations, size_states}
 use Rattle.scheme.specs.WellFormed.{value_fits, values_fit}
@@ -88,19 +88,28 @@ none_past (d ∷ ds) zero is = cc
 none_past (d ∷ ds) (suc a) is = omega (arith, none_past ds a is)
 
 -- what a digit reads is the part
-pub digit_reads : (ds : List Digit) (c a : ℕ) (d : Digit) → Weighed ds → slice_get ds a ≡ Some d → c / d.weight % (d.size + 1) ≡ part (get_or (values_from (digit_sizes ds) c) a None)
+pub digit_reads : (ds : List Digit) (c a : ℕ) (d : Digit) → Weighed ds → slice_get ds a ≡ Some d → c / d.weight.by % (d.size + 1) ≡ part (get_or (values_from (digit_sizes ds) c) a None)
 digit_reads ds c a d weighed is =
     ap (λ n. c / n % (d.size + 1)) (weighed a d is)
     ∙ ap (λ n. c / weight (digit_sizes ds) a % (n + 1)) (sym (size_at ds a d is))
     ∙ part_is (digit_sizes ds) c a
 
 -- what is read of a digit, or of none
-pub part_read : (ds : List Digit) (c a : ℕ) (o : Option (Bor Digit)) (r : ℕ) → Weighed ds → option_copied o ≡ slice_get ds a → MatchOption o (r ≡ 0) (λ d. r ≡ (c - 1) / d.now.weight % (d.now.size + 1)) → r ≡ part (value_in (digit_sizes ds) c a)
+pub part_read : (ds : List Digit) (c a : ℕ) (o : Option (Bor Digit)) (r : ℕ) → Weighed ds → option_copied o ≡ slice_get ds a → MatchOption o (r ≡ 0) (λ d. r ≡ (c - 1) / d.now.weight.by % (d.now.size + 1)) → r ≡ part (value_in (digit_sizes ds) c a)
 part_read ds c a None r weighed is told = told ∙ sym (ap part (past_values (digit_sizes ds) (c - 1) a (none_past ds a (sym is))))
 part_read ds c a (Some d) r weighed is told = told ∙ digit_reads ds (c - 1) a d.now weighed (sym is)
 
+-- what fits a digit, or none
+pub fit_read : (ds : List Digit) (a : ℕ) (o : Option (Bor Digit)) (v : Option ℕ) (r : Bool) → option_copied o ≡ slice_get ds a → MatchOption o (r ≡ is_none v) (λ d. r ≡ value_fits d.now.size v) → r ≡ value_fits (get_or (digit_sizes ds) a 0) v
+fit_read ds a None v r is told = told ∙ only_null v ∙ ap (λ k. value_fits k v) (sym (get_or_past (digit_sizes ds) a 0 (none_past ds a (sym is))))
+  where
+    only_null : (v : Option ℕ) → is_none v ≡ value_fits 0 v
+    only_null None = refl
+    only_null (Some x) = sym (le-ltb x 0 (omega arith))
+fit_read ds a (Some d) v r is told = told ∙ ap (λ k. value_fits k v) (sym (size_at ds a d.now (sym is)))
+
 -- one digit more
-pub weighed_more : (ds : List Digit) (d : Digit) → Weighed ds → d.weight ≡ weight (digit_sizes ds) (length ds) → Weighed (ds ++ d ∷ [])
+pub weighed_more : (ds : List Digit) (d : Digit) → Weighed ds → d.weight.by ≡ weight (digit_sizes ds) (length ds) → Weighed (ds ++ d ∷ [])
 weighed_more ds d weighed is_weight a e is = ⊎_elim inside last (cases_lt a (length ds))
   where
     sizes : digit_sizes (ds ++ d ∷ []) ≡ digit_sizes ds ++ d.size ∷ []
@@ -113,15 +122,15 @@ weighed_more ds d weighed is_weight a e is = ⊎_elim inside last (cases_lt a (l
     read : get_or (ds ++ d ∷ []) a e ≡ e
     read = get_or_from_slice_get (ds ++ d ∷ []) a e e is
 
-    inside : a < length ds → e.weight ≡ weight (digit_sizes (ds ++ d ∷ [])) a
+    inside : a < length ds → e.weight.by ≡ weight (digit_sizes (ds ++ d ∷ [])) a
     inside low =
         weighed a e (slice_get-get_or ds a e low ∙ ap Some (sym (get_or-append ds (d ∷ []) e a low) ∙ read)) ∙ sym (kept (omega arith))
 
-    last : length ds ≤ a → e.weight ≡ weight (digit_sizes (ds ++ d ∷ [])) a
+    last : length ds ≤ a → e.weight.by ≡ weight (digit_sizes (ds ++ d ∷ [])) a
     last high =
         let end : a ≡ length ds = omega (arith, slice_get_within (ds ++ d ∷ []) a e is, length_push ds d) in
         let it : e ≡ d = sym read ∙ ap (λ n. get_or (ds ++ d ∷ []) n e) end ∙ get_or-append_seam ds d [] e in
-        ap (λ (x : Digit). x.weight) it ∙ is_weight ∙ ap (weight (digit_sizes ds)) (sym end) ∙ sym (kept (omega arith))
+        ap (λ (x : Digit). x.weight.by) it ∙ is_weight ∙ ap (weight (digit_sizes ds)) (sym end) ∙ sym (kept (omega arith))
 
 -- Another part.
 
@@ -210,22 +219,22 @@ updated_past ks c a v pos h past f =
 
 -- the exchange that a digit makes
 pub digit_exchanges : (ds : List Digit) (d : Digit) (c a : ℕ) (v : Option ℕ) (p new : ℕ) → Weighed ds → slice_get ds a ≡ Some d → 0 < c → c < size_states (digit_sizes ds) → value_fits (get_or (digit_sizes ds) a 0) v ≡ true
-    → p ≡ (c - 1) / d.weight % (d.size + 1) → new ≡ part v → Exchanged (digit_sizes ds) c a v p d.weight new
+    → p ≡ (c - 1) / d.weight.by % (d.size + 1) → new ≡ part v → Exchanged (digit_sizes ds) c a v p d.weight.by new
 digit_exchanges ds d c a v p new weighed is pos h f told is_new =
-    exchanged (digit_sizes ds) c a v p d.weight new pos h f (told ∙ digit_reads ds (c - 1) a d weighed is) (weighed a d is) is_new
+    exchanged (digit_sizes ds) c a v p d.weight.by new pos h f (told ∙ digit_reads ds (c - 1) a d weighed is) (weighed a d is) is_new
 
 -- Whole objects.
 
 -- the value of a digit in a sum
 abbrev pub value_read : ℕ → Digit → Option ℕ
-value_read c d = from_part (c / d.weight % (d.size + 1))
+value_read c d = from_part (c / d.weight.by % (d.size + 1))
 
 -- the digits whose weights are w times theirs have the values of c / w
-values_over : (ds : List Digit) (w c : ℕ) → ((a : ℕ) (d : Digit) → slice_get ds a ≡ Some d → d.weight ≡ w * weight (digit_sizes ds) a) → map (value_read c) ds ≡ values_from (digit_sizes ds) (c / w)
+values_over : (ds : List Digit) (w c : ℕ) → ((a : ℕ) (d : Digit) → slice_get ds a ≡ Some d → d.weight.by ≡ w * weight (digit_sizes ds) a) → map (value_read c) ds ≡ values_from (digit_sizes ds) (c / w)
 values_over [] w c weights = refl
 values_over (d ∷ ds) w c weights =
     let k : ℕ = d.size + 1 in
-    let head : d.weight ≡ w = weights 0 d refl ∙ mul-one w in
+    let head : d.weight.by ≡ w = weights 0 d refl ∙ mul-one w in
     let tail : map (value_read c) ds ≡ values_from (digit_sizes ds) (c / (w * k)) =
     values_over ds (w * k) c (λ a e is. weights (suc a) e is ∙ ap (λ n. w * n) (mul_comm (weight (digit_sizes ds) a) k) ∙ sym (mul_assoc w k (weight (digit_sizes ds) a))) in
     ap (λ n. from_part (c / n % k) ∷ map (value_read c) ds) head

@@ -3,6 +3,7 @@ use Rattle.std.specs.Prelude.{◌≡◌, ℕ, ◌+◌, cond, List, map, take, So
 use Rattle.scheme.specs.Sizes.{size_combinations}
 use Rattle.scheme.specs.WellFormed.{values_fit}
 use Rattle.codes.specs.declared.digit.Digit.{Digit}
+use Rattle.codes.specs.Divisors.{number_of}
 use Rattle.codes.specs.Codes.{weighed}
 
 -- the product of (k + 1) over the attributes before a
@@ -15,7 +16,7 @@ digit_sizes ds = map (λ (d : Digit). d.size) ds
 
 -- each has its weight
 abbrev pub Weighed : List Digit → Type 0
-Weighed ds = (a : ℕ) (d : Digit) → slice_get ds a ≡ Some d → d.weight ≡ weight (digit_sizes ds) a
+Weighed ds = (a : ℕ) (d : Digit) → slice_get ds a ≡ Some d → number_of d.weight ≡ weight (digit_sizes ds) a
 
 -- a sum so far, and the weighed sum of values that are left; none where these do not fit their attributes
 abbrev pub summed : ℕ → ℕ → List ℕ → List (Option ℕ) → Option ℕ

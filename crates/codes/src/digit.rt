@@ -2,15 +2,19 @@
 ghost use Rattle.std.specs.Prelude.{◌≡◌, ◌+◌, ◌/◌, ◌%◌, ◌<◌};
 ghost use Rattle.scheme.specs.WellFormed.{value_fits};
 ghost use Rattle.codes.specs.Codes.{part, from_part};
+ghost use Rattle.codes.specs.Divisors.{number_of};
 
+use crate::divisor::Divisor;
 use scheme::entries::value_fits;
 
-// The size of the attribute, and what part 1 of it counts for.
+// The size of the attribute, how many parts it has, and what part 1 of it counts for.
 #[derive(Clone, Copy)]
 pub struct Digit {
     pub(crate) size: u8,
-    pub(crate) weight: u32,
-    ghost counts: { 0 < weight },
+    parts: Divisor,
+    pub(crate) weight: Divisor,
+    ghost byte: { size < 256 },
+    ghost with_null: { number_of parts ≡ size + 1 },
 }
 
 // 0 for null, v + 1 for the value v.
@@ -29,6 +33,18 @@ pub(crate) fn value_of(part: u32) -> Option<u8>
 }
 
 impl Digit {
+    pub(crate) fn new(size: u8, weight: u32) -> Digit
+        requires { 0 < weight }
+        ensures size { result.size ≡ size }
+        ensures weight { number_of result.weight ≡ weight }
+    {
+        Digit {
+            size,
+            parts: Divisor::of(size as u32 + 1).unwrap(),
+            weight: Divisor::of(weight).unwrap(),
+        }
+    }
+
     // Null, or a value below the size.
     pub(crate) fn fits(&self, value: Option<u8>) -> bool
         ensures { result ≡ value_fits self.now.size value }
@@ -38,9 +54,9 @@ impl Digit {
 
     // Its part in a sum.
     pub(crate) fn part_in(&self, sum: u32) -> u32
-        ensures value { result ≡ sum / self.now.weight % (self.now.size + 1) }
+        ensures value { result ≡ sum / number_of self.now.weight % (self.now.size + 1) }
         ensures small { result < 257 }
     {
-        sum / self.weight % (self.size as u32 + 1)
+        self.parts.rest(self.weight.divide(sum))
     }
 }

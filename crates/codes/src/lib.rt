@@ -2,13 +2,16 @@
 // read and changed on the code itself; nothing is decoded for it.
 //
 // object   an object in a state
+// divisor  a number to divide by
 // digit    one attribute in a code
 // codes    the digits of all attributes; values by codes and back
 #![tactic(auto)]
 
 pub mod codes;
 pub mod digit;
+pub mod divisor;
 pub mod object;
 
-pub use codes::Codes;
+pub use codes::{Codes, MAX_STATES};
+pub use divisor::Divisor;
 pub use object::{ABSENT, ObjectState};

@@ -5,6 +5,8 @@ use lib.Arith.{digits_lt}
 use Rattle.std.proofs.Math.Nat.{div-one}
 use Rattle.std.proofs.lemmas.List.{drop_more, drop_all}
 use Rattle.scheme.specs.Sizes.{size_states}
+use Rattle.codes.specs.declared.divisor.Divisor.{Divisor}
+use Rattle.codes.specs.Divisors.{number_of}
 use Rattle.codes.specs.Objects.{ObjectState, object_fits}
 use Rattle.codes.specs.Codes.{code, object_from}
 use Rattle.codes.proofs.Digits.{code_below}
@@ -59,18 +61,19 @@ sum_all f ks xs i sum h =
 
 -- The objects of a number, by their places.
 module _ (ks : List ℕ) (m : ℕ) where
-  read_from : (i : ℕ) (ps : List ℕ) → ((k : ℕ) → k < length ps → get_or ps k 0 ≡ size_states ks ^ (i + k))
-      → map (λ p. object_from ks (m / p % size_states ks)) ps ≡ state_from ks (length ps) (m / size_states ks ^ i)
+  read_from : (i : ℕ) (ps : List Divisor) → ((k : ℕ) → k < length ps → get_or (map number_of ps) k 0 ≡ size_states ks ^ (i + k))
+      → map (λ (p : Divisor). object_from ks (m / number_of p % size_states ks)) ps ≡ state_from ks (length ps) (m / size_states ks ^ i)
   read_from i [] h = refl
   read_from i (p ∷ ps) h =
       let b = size_states ks in
-      let object : ℕ → ObjectState = λ p. object_from ks (m / p % b) in
-      let first : p ≡ b ^ i = h 0 (omega arith) ∙ ap (λ k. b ^ k) (omega arith) in
+      let object : ℕ → ObjectState = λ n. object_from ks (m / n % b) in
+      let whole : Divisor → ObjectState = λ p. object (number_of p) in
+      let first : number_of p ≡ b ^ i = h 0 (omega arith) ∙ ap (λ k. b ^ k) (omega arith) in
       let next : m / b ^ (i + 1) ≡ m / b ^ i / b = sym (div-div-eq-div-mul m (b ^ i) b ∙ ap (λ k. m / k) (pow_more b i (b ^ i) refl)) in
-      let rest : map object ps ≡ state_from ks (length ps) (m / b ^ (i + 1)) = read_from (i + 1) ps (λ k l. h (suc k) (omega arith) ∙ ap (λ n. b ^ n) (omega arith)) in
-      ap (λ p. object p ∷ map object ps) first ∙ ap (λ t. object (b ^ i) ∷ t) (rest ∙ ap (state_from ks (length ps)) next)
+      let rest : map whole ps ≡ state_from ks (length ps) (m / b ^ (i + 1)) = read_from (i + 1) ps (λ k l. h (suc k) (omega arith) ∙ ap (λ n. b ^ n) (omega arith)) in
+      ap (λ n. object n ∷ map whole ps) first ∙ ap (λ t. object (b ^ i) ∷ t) (rest ∙ ap (state_from ks (length ps)) next)
 
-  pub state_read : (ps : List ℕ) → Places (size_states ks) ps → map (λ p. object_from ks (m / p % size_states ks)) ps ≡ state_from ks (length ps) m
+  pub state_read : (ps : List Divisor) → Places (size_states ks) ps → map (λ (p : Divisor). object_from ks (m / number_of p % size_states ks)) ps ≡ state_from ks (length ps) m
   state_read ps h =
       let whole : m / size_states ks ^ 0 ≡ m = ap (λ n. m / n) (pow-zero (size_states ks)) ∙ div-one m in
       read_from 0 ps (λ k l. h k l ∙ ap (λ n. size_states ks ^ n) (omega arith)) ∙ ap (state_from ks (length ps)) whole

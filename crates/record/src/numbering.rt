@@ -6,7 +6,7 @@ ghost use Rattle.codes.specs.Meanings.{sizes_in};
 ghost use Rattle.record.specs.Places.{Places};
 
 use bounded::Bounded;
-use codes::{Codes, ObjectState};
+use codes::{Codes, Divisor, ObjectState};
 
 // An entry for each object, by its number.
 pub type State = Bounded<ObjectState, 8>;
@@ -15,7 +15,7 @@ pub type State = Bounded<ObjectState, 8>;
 pub struct Numbering {
     codes: Codes,
     // What the code of each object counts for.
-    places: Bounded<u32, 8>,
+    places: Bounded<Divisor, 8>,
     states: u32,
     ghost placed: { Places (size_states (sizes_in codes)) (items places) },
     ghost counted: { states ≡ size_states (sizes_in codes) ^ length (items places) },

@@ -17,8 +17,6 @@ use crate::numbering::Numbering;
 use bounded::Bounded;
 use scheme::draft::Draft;
 
-// Beside `scheme::record::Scheme`, which the reader fills: that one is what is declared, this one has what
-// follows from it for states and moves.
 #[derive(Clone, Copy)]
 pub struct Scheme {
     draft: Draft,

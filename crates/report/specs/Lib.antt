@@ -1,1 +1,5 @@
-pub mod Headlines
+pub mod Names
+pub mod Moves
+pub mod Answers
+pub mod Reports
+pub mod Promises

@@ -1,26 +1,22 @@
-// What is reported of a text, as values: the program `annex` only prints them.
+// The whole report of a scheme text, as bytes: what `annex` prints.
+//
+// names    names by their numbers
+// moves    the lines that tell the moves of a witness
+// refusal  the line that tells a refusal
+// tables   the three tables of an analysis
+// answers  the lines that answer a query
+// whole    the lines of a whole report
+// output   what is printed of a text
 #![tactic(auto)]
 
-ghost use Rattle.std.specs.Prelude.{◌≡◌};
-ghost use Rattle.text.specs.Reading.{reading};
-ghost use Rattle.report.specs.Headlines.{headline_of};
+mod answers;
+mod moves;
+mod names;
+pub mod output;
+pub mod refusal;
+mod tables;
+pub mod whole;
 
-pub mod headline;
-
-use headline::Headline;
-use scheme::record::Scheme;
-use text::read::read;
-
-// What is reported first of a text: its counts of states and moves, or its refusal.
-pub fn headline_of(text: &[u8]) -> Headline
-    ensures { result ≡ headline_of (reading text.now) }
-{
-    let mut scheme = Scheme::bare();
-    match read(&mut scheme, text) {
-        Ok(()) => Headline::Accepted(scheme.states(), scheme.moves()),
-        Err(fault) => Headline::Refused(fault.report()),
-    }
-}
-
-#[cfg(test)]
-mod tests;
+pub use output::annex;
+pub use refusal::put_refusal;
+pub use whole::put_report;

@@ -3,6 +3,5 @@ pub mod Models
 pub mod Declarations
 pub mod Drafts
 pub mod Counts
-pub mod Schemes
 pub mod Sizes
 pub mod WellFormed

@@ -1,4 +1,4 @@
-// The scheme record: what a scheme text declares, in bounded tables that allocate nothing.
+// What a scheme text declares, in bounded tables that allocate nothing.
 //
 // kind         the kinds of lines that declare a scheme
 // terms        subject and object, operands, predicates, actions
@@ -7,7 +7,6 @@
 // declaration  what one line declares
 // policies     the table of policies, and what fills one of them
 // draft        a scheme that is being read, line by line
-// record       an accepted scheme, whose count of states is known and within its bound
 #![tactic(auto)]
 
 pub mod declaration;
@@ -16,5 +15,4 @@ pub mod entries;
 pub mod kind;
 pub mod names;
 pub mod policies;
-pub mod record;
 pub mod terms;

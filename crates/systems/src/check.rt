@@ -10,7 +10,7 @@ use super::numbers::Numbers;
 use super::refusals::TableRefusal;
 use protection::Permission;
 
-// The bounds that the interface has for walks and labels. `scheme` has the first one for schemes, of which
+// The bounds that the interface has for walks and labels. `codes` has the first one for schemes, of which
 // this crate knows nothing.
 const MAX_STATES: u32 = 1_048_576;
 

@@ -5,3 +5,10 @@ mod Conditions
 mod Misnames
 pub mod Firsts
 pub mod Whole
+pub mod Sound
+mod Made
+mod WritingCut
+mod WritingForms
+mod WritingLines
+mod WritingClauses
+pub mod WritingWhole

@@ -5,3 +5,4 @@ pub mod Reading
 pub mod Refusing
 pub mod Readers
 pub mod Candidates
+pub mod Writing

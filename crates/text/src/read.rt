@@ -1,15 +1,18 @@
 // Reads a whole text.
-ghost use Rattle.std.specs.Prelude.{◌≡◌, true, is_err};
-ghost use Rattle.scheme.specs.Schemes.{scheme_of};
+ghost use Rattle.std.specs.Prelude.{◌≡◌, true, Ok, is_err};
+ghost use Rattle.scheme.specs.Models.{SchemeModel};
+ghost use Rattle.record.specs.Accepted.{accepted};
+ghost use Rattle.record.specs.Schemes.{scheme_of};
 ghost use Rattle.words.specs.Outcomes.{after, map_ok};
 ghost use Rattle.words.specs.Cuts.{text_lines};
 ghost use Rattle.text.specs.Refusing.{Lawful};
 ghost use Rattle.text.specs.Reading.{read_lines, start, reading};
+ghost use Rattle.text.specs.Writing.{written, Writable};
 
 use crate::fault::SchemeFault;
 use crate::reader::Reader;
 use lines::fault::LineFault;
-use scheme::record::Scheme;
+use record::Scheme;
 use words::cut::Lines;
 use words::fault::WordFault;
 
@@ -39,11 +42,15 @@ fn read_text(scheme: &mut Scheme, text: &[u8]) -> Result<(), SchemeFault>
 
 // Reads a text. An accepted one replaces all that the scheme held; a refused one leaves it as it was. The
 // scheme is lent, and none is answered: a rule of the project (docs/TEXT.md).
-// `lawful`: the answer is the one that the table of refusals gives, and the table gives no other.
+// `lawful`: the answer is the one that the table of refusals gives, and the table gives no other. `accepted`:
+// every scheme that the table accepts is one of the records, which takes well-formed schemes alone.
+// `every_scheme_is_written`: the format writes each scheme within its limits, by a text that reads back to it.
 pub fn read(scheme: &mut Scheme, text: &[u8]) -> Result<(), SchemeFault>
     ensures result { after result (scheme_of scheme.new) ≡ reading text.now }
     ensures kept { is_err result ≡ true → scheme.new ≡ scheme.old }
     ensures lawful { Lawful text.now (after result (scheme_of scheme.new)) }
+    ensures accepted { (m : SchemeModel) → reading text.now ≡ Ok m → accepted m ≡ true }
+    ensures every_scheme_is_written { (m : SchemeModel) → Writable m → reading (written m) ≡ Ok m }
 {
     read_text(scheme, text)
 }

@@ -11,8 +11,8 @@ use Rattle.scheme.specs.declared.terms.Term.{Term}
 use Rattle.scheme.specs.declared.terms.Operand.TheVariants.{SubjectAttribute, ObjectAttribute}
 use Rattle.scheme.specs.declared.terms.Comparison.TheVariants.{NotEqual}
 use Rattle.scheme.specs.declared.terms.Action.TheVariants.{Assign, Add, Sub}
-use Rattle.scheme.specs.Models.{SchemeModel}
-use Rattle.scheme.specs.Counts.{state_count}
+use Rattle.scheme.specs.Models.{SchemeModel, bare_model}
+use Rattle.scheme.specs.Counts.{state_count, move_count}
 use Rattle.scheme.specs.Sizes.{sizes_of, size_states}
 use Rattle.codes.specs.Objects.{there}
 use Rattle.enforcement.specs.declared.predicates.Operator.TheVariants.{Compare}
@@ -24,7 +24,8 @@ use Rattle.record.specs.Systems.{object_count, start_state, step_of}
 use Rattle.text.specs.declared.fault.SchemeFault.{SchemeFault}
 use Rattle.text.specs.Faults.{scheme_report}
 use Rattle.text.specs.Reading.{reading}
-use Rattle.reports.specs.Reports.{annex_output}
+use Rattle.text.specs.Writing.{written}
+use Rattle.report.specs.Reports.{annex_output}
 use Rattle.worked_examples.specs.Texts.{meter, meter_report, most, too_many}
 
 -- the text is accepted, and of the scheme that it declares this holds
@@ -64,8 +65,13 @@ abbrev pub asked : ℕ → ℕ → ℕ → Result Said Refused
 asked s o r = analysis_answer two_states (record { subject = s; object = o; right = r }) 2 2 2
 
 pub record WorkedExamples : Type 0 where
+  -- a new scheme record has one state and no move
+  pub bare_states : state_count bare_model ≡ 1
+  pub bare_moves : move_count bare_model ≡ 0
   pub meter_is : Declares meter Meter
   pub meter_prints : annex_output meter ≡ meter_report
+  -- it is the text that its scheme is written as
+  pub meter_is_written : Declares meter (λ m. written m ≡ meter)
   pub null_is_not_unequal : meets (Compare NotEqual) None (Some 0) ≡ false
   -- an attribute of size 3
   pub sub_below_zero_fails : acted (3 ∷ []) (Sub (only Subject) 1) (having 0 0) ≡ None

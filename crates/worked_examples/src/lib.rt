@@ -6,7 +6,7 @@ ghost use Rattle.render.specs.Appended.{Appended};
 ghost use Rattle.worked_examples.specs.Texts.{meter_report};
 ghost use Rattle.worked_examples.specs.Examples.{WorkedExamples};
 
-use reports::annex;
+use report::annex;
 use std::alloc::AllocError;
 
 // Appends the report of the meter's text. `examples`: all worked examples hold.

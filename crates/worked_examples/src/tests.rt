@@ -1,5 +1,5 @@
 // Texts too long to stand in a file of cases.
-use reports::annex;
+use report::annex;
 use std::alloc::Global;
 use std::test::Fail;
 

@@ -26,7 +26,7 @@ impl Codes {
     pub fn object(&self, code: u32) -> Option<ObjectState>
         ensures { option_map object_of result ≡ (if nat_lt code (size_states (sizes_in self.now)) then Some (object_from (sizes_in self.now) code) else None) }
     {
-        if code >= self.radix {
+        if code >= self.radix() {
             return None;
         }
         match code {
@@ -50,7 +50,7 @@ impl Codes {
             if !digit.fits(*value) {
                 return None;
             }
-            sum += part_of(*value) * digit.weight;
+            sum += part_of(*value) * digit.weight.number();
         }
         Some(sum)
     }

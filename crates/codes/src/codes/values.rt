@@ -61,7 +61,7 @@ impl Codes {
     pub fn update(&self, code: u32, attribute: u8, value: Option<u8>) -> Option<u32>
         ensures { result ≡ updated_code (sizes_in self.now) code attribute value }
     {
-        if code == ABSENT || code >= self.radix || !self.fits(attribute, value) {
+        if code == ABSENT || code >= self.radix() || !self.fits(attribute, value) {
             return None;
         }
         let Some(digit) = self.digit(attribute) else {
@@ -69,6 +69,7 @@ impl Codes {
         };
         let old = digit.part_in(code - 1);
         let new = part_of(value);
-        Some(code - old * digit.weight + new * digit.weight)
+        let weight = digit.weight.number();
+        Some(code - old * weight + new * weight)
     }
 }

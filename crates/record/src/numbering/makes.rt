@@ -2,13 +2,13 @@
 ghost use Rattle.std.specs.Prelude.{◌≡◌, ◌^◌, ◌<◌, ◌≤◌, length, if◌then◌else◌, Some, None, nat_le};
 ghost use Rattle.std.specs.Option.{option_map};
 ghost use Rattle.bounded.specs.Items.{items};
+ghost use Rattle.codes.specs.Divisors.{number_of};
 ghost use Rattle.record.specs.Places.{Places};
 ghost use Rattle.record.specs.Numberings.{dimensions_of, within_bounds};
 
 use super::Numbering;
 use bounded::Bounded;
-use codes::Codes;
-use scheme::record::MAX_STATES;
+use codes::{Codes, Divisor, MAX_STATES};
 
 // A count of objects is at most 8 in what follows, because a draft has no more: it comes from a draft's
 // list, so that a type of its own would only say again what the list's contract says.
@@ -23,14 +23,25 @@ fn count_states(radix: u32, objects: u32) -> Option<u32>
         .filter(|states| *states <= MAX_STATES)
 }
 
-fn places_of(radix: u32, objects: u32) -> Bounded<u32, 8>
+// What the code of an object counts for.
+#[tactic(auto, using(crate::proofs::Powers::pow_pos))]
+fn place_of(radix: u32, object: u32) -> Divisor
+    requires positive { 0 < radix }
+    requires few { radix ^ object ≤ 1048576 }
+    ensures { number_of result ≡ radix ^ object }
+{
+    Divisor::of(radix.pow(object)).unwrap()
+}
+
+fn places_of(radix: u32, objects: u32) -> Bounded<Divisor, 8>
     requires positive { 0 < radix }
     requires fits { objects ≤ 8 }
     requires few { radix ^ objects ≤ 1048576 }
     ensures places { Places radix (items result) }
     ensures count { length (items result) ≡ objects }
 {
-    Bounded::collect(1, (0..objects).map(|object| radix.pow(object))).unwrap()
+    let places = (0..objects).map(|object| place_of(radix, object));
+    Bounded::collect(place_of(radix, 0), places).unwrap()
 }
 
 impl Numbering {

@@ -2,12 +2,13 @@
 ghost use Rattle.std.specs.Prelude.{◌≡◌, ◌/◌, ◌%◌, ◌^◌, ◌<◌, slice_set};
 ghost use Rattle.scheme.specs.Sizes.{size_states};
 ghost use Rattle.codes.specs.Codes.{object_from};
+ghost use Rattle.codes.specs.Divisors.{number_of};
 ghost use Rattle.codes.specs.Meanings.{sizes_in};
 ghost use Rattle.record.specs.States.{number, state_from};
 ghost use Rattle.record.specs.Numberings.{dimensions_of};
 
 use super::Numbering;
-use codes::Codes;
+use codes::{Codes, Divisor};
 
 impl Numbering {
     pub(crate) fn codes(&self) -> &Codes
@@ -18,9 +19,9 @@ impl Numbering {
 
     // What the code of an object counts for. Here and below an object's number is an index, and below the
     // count as an index of a slice is: a type of such numbers would have to borrow its numbering.
-    fn place(&self, object: u32) -> u32
+    fn place(&self, object: u32) -> Divisor
         requires { object < (dimensions_of self.now).objects }
-        ensures { result ≡ size_states (dimensions_of self.now).sizes ^ object }
+        ensures { number_of result ≡ size_states (dimensions_of self.now).sizes ^ object }
     {
         self.places.as_slice()[object as usize]
     }
@@ -30,7 +31,7 @@ impl Numbering {
         requires { object < (dimensions_of self.now).objects }
         ensures { result ≡ state / size_states (dimensions_of self.now).sizes ^ object % size_states (dimensions_of self.now).sizes }
     {
-        state / self.place(object) % self.codes.radix()
+        self.codes.lowest_code(self.place(object).divide(state))
     }
 
     // The state with another code in the place of an object's.
@@ -42,7 +43,7 @@ impl Numbering {
         ensures value { result ≡ number (dimensions_of self.now).sizes (slice_set (state_from (dimensions_of self.now).sizes (dimensions_of self.now).objects state) object (object_from (dimensions_of self.now).sizes new)) }
         ensures below { result < size_states (dimensions_of self.now).sizes ^ (dimensions_of self.now).objects }
     {
-        let place = self.place(object);
+        let place = self.place(object).number();
         state - old * place + new * place
     }
 }

@@ -28,7 +28,7 @@ impl Numbering {
         // no `try_fold`, which is no plainer: its closure would have to state how large the sum can be
         for (object, place) in objects.iter().zip(self.places.as_slice()) {
             let code = self.codes.code(object)?;
-            sum += code * *place;
+            sum += code * place.number();
         }
         Some(sum)
     }
@@ -51,10 +51,13 @@ impl Numbering {
         if number >= self.states {
             return None;
         }
-        // A remainder is below the count of codes, and so the code of an object.
-        let radix = self.codes.radix();
+        let codes = &self.codes;
         let places = self.places.as_slice().iter();
-        let objects = places.map(|place| self.codes.object(number / *place % radix).unwrap());
+        // A lowest code is a code, and so the code of an object.
+        let objects = places.map(|place| {
+            let code = codes.lowest_code(place.divide(number));
+            codes.object(code).unwrap()
+        });
         Some(Bounded::collect(ObjectState::Absent, objects).unwrap())
     }
 }

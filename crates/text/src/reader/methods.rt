@@ -1,7 +1,8 @@
 // One line more, and the end of the text.
-ghost use Rattle.std.specs.Prelude.{◌≡◌, Some};
+ghost use Rattle.std.specs.Prelude.{◌≡◌, true, Some};
 ghost use Rattle.scheme.specs.Drafts.{draft_of};
-ghost use Rattle.scheme.specs.Schemes.{scheme_of};
+ghost use Rattle.scheme.specs.WellFormed.{well_formed};
+ghost use Rattle.record.specs.Schemes.{scheme_of};
 ghost use Rattle.words.specs.Outcomes.{after, map_ok};
 ghost use Rattle.words.specs.Positions.{line_of};
 ghost use Rattle.words.specs.Cuts.{line_words};
@@ -13,8 +14,8 @@ use crate::candidate::Candidate;
 use crate::fault::SchemeFault;
 use lines::line::formed_line;
 use lines::statement::Statement;
+use record::Scheme;
 use scheme::draft::Draft;
-use scheme::record::Scheme;
 use words::position::{Line, Spot};
 
 // There is an attribute, a right and an object.
@@ -61,8 +62,10 @@ impl Reader {
         }
     }
 
-    // The scheme of a text whose last line is read; `number` is that of the line after it.
+    // The scheme of a text whose last line is read; `number` is that of the line after it. What is read is
+    // well-formed, so that no record can only mean too many states.
     pub(crate) fn finish(self, number: usize) -> Result<Scheme, SchemeFault>
+        requires { well_formed (draft_of self.draft) ≡ true }
         ensures { map_ok scheme_of result ≡ finished number (draft_of self.draft) }
     {
         let spot = Spot {

@@ -15,6 +15,8 @@ worked_examples : WorkedExamples
 unfolding digits try_moves take_states size_at
 worked_examples =
     record {
+      bare_states = refl;
+      bare_moves = refl;
       meter_is = (
         _,
         (
@@ -31,6 +33,7 @@ worked_examples =
         ),
       );
       meter_prints = refl;
+      meter_is_written = (_, (refl, refl));
       null_is_not_unequal = refl;
       sub_below_zero_fails = refl;
       add_one_to_one = refl;

@@ -7,7 +7,7 @@ use Rattle.codes.specs.declared.digit.Digit.{Digit}
 use Rattle.codes.specs.Meanings.{sizes_in}
 use Rattle.codes.proofs.Weighing.{weight_le}
 use Rattle.codes.proofs.Summing.{summed_uneven, digit_unfit, digit_summed}
-use Rattle.codes.proofs.codes.Codes.weigh.Goals.{After-fits, After-part_of}
+use Rattle.codes.proofs.codes.Codes.weigh.Goals.{After-fits, After-number}
 use Rattle.codes.proofs.codes.Codes.weigh.Goals as goal
 
 pub returns-then-values-digits-clause-value : goal.returns-then-values-digits-clause-value
@@ -33,14 +33,14 @@ returns-then-not-fits-clause-value c =
     digit_unfit (items self.digits) c.args.values.now self.weighed t.even (length c.loop-digit.yielded) c.loop-digit.sum c.in-Some.digit.now c.in-Some.value.now t.inside t.is_digit t.is_value c.if-not-fits.ensures
     ∙ c.loop-digit.invariant.total
 
-more : (c : After-part_of) (t : Turn (items c.args.self.now.digits) c.args.values.now (length c.loop-digit.yielded) c.in-Some.digit.now c.in-Some.value.now) (next : ℕ) → next ≡ length c.loop-digit.yielded + 1
-    → (summed (c.loop-digit.sum + c.part_of.result * c.in-Some.digit.now.weight) (weight (sizes_in c.args.self.now) next) (drop next (sizes_in c.args.self.now)) (drop next c.args.values.now) ≡ summed 0 1 (sizes_in c.args.self.now) c.args.values.now)
-    × (c.loop-digit.sum + c.part_of.result * c.in-Some.digit.now.weight < weight (sizes_in c.args.self.now) next)
-    × (c.loop-digit.sum + c.part_of.result * c.in-Some.digit.now.weight < 1048576)
+more : (c : After-number) (t : Turn (items c.args.self.now.digits) c.args.values.now (length c.loop-digit.yielded) c.in-Some.digit.now c.in-Some.value.now) (next : ℕ) → next ≡ length c.loop-digit.yielded + 1
+    → (summed (c.loop-digit.sum + c.part_of.result * c.number.result) (weight (sizes_in c.args.self.now) next) (drop next (sizes_in c.args.self.now)) (drop next c.args.values.now) ≡ summed 0 1 (sizes_in c.args.self.now) c.args.values.now)
+    × (c.loop-digit.sum + c.part_of.result * c.number.result < weight (sizes_in c.args.self.now) next)
+    × (c.loop-digit.sum + c.part_of.result * c.number.result < 1048576)
 more c t next is_next =
     let self = c.args.self.now in
     let step = digit_summed (items self.digits) c.args.values.now self.weighed t.even (length c.loop-digit.yielded) c.loop-digit.sum c.in-Some.digit.now c.in-Some.value.now t.inside t.is_digit t.is_value c.part_of.result next c.part_of.ensures c.if-not-fits.ensures c.loop-digit.invariant.low is_next in
-    (step.0 ∙ c.loop-digit.invariant.total, step.1, omega (arith, step.1, weight_le (sizes_in self) next, self.counted, self.few))
+    rw c.number.ensures (step.0 ∙ c.loop-digit.invariant.total, step.1, omega (arith, step.1, weight_le (sizes_in self) next, self.counted, self.few))
 
 pub overflow_mul-sum : goal.overflow_mul-sum
 overflow_mul-sum c = omega (arith, (more c (turn (goal.at.overflow_mul-sum c).After-fits) _ refl).2)

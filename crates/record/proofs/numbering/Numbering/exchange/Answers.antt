@@ -1,14 +1,14 @@
-use Rattle.std.proofs.Common.{arith}
+use Rattle.std.proofs.Common.{◌∙◌, arith}
 use Rattle.record.specs.Numberings.{dimensions_of}
 use Rattle.record.proofs.Exchanging.{Exchanged, exchanged}
 use Rattle.record.proofs.numbering.Numbering.exchange.Goals as goal
 
-change : (c : goal.After-place-place)
-    → Exchanged (dimensions_of c.args.self.now).sizes (dimensions_of c.args.self.now).objects c.args.state c.args.object c.args.old c.args.new c.place-place.result
+change : (c : goal.After-number-place)
+    → Exchanged (dimensions_of c.args.self.now).sizes (dimensions_of c.args.self.now).objects c.args.state c.args.object c.args.old c.args.new c.number-place.result
 change c =
     let d = dimensions_of c.args.self.now in
     exchanged d.sizes d.objects c.args.state c.args.object c.args.old c.args.new _
-    c.requires.state c.requires.object c.requires.old c.requires.new c.place-place.ensures
+    c.requires.state c.requires.object c.requires.old c.requires.new (c.number-place.ensures ∙ c.place.ensures)
 
 pub overflow_mul-result : goal.overflow_mul-result
 overflow_mul-result c = omega (arith, (change c).within)

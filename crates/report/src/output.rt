@@ -1,0 +1,24 @@
+// All that is printed of a text.
+ghost use Rattle.render.specs.Appended.{Appended};
+ghost use Rattle.report.specs.Reports.{annex_output};
+ghost use Rattle.report.specs.Promises.{PromisesKept};
+
+use crate::refusal::put_refusal;
+use crate::whole::put_report;
+use record::Scheme;
+use std::alloc::AllocError;
+use text::read::read;
+
+// Appends the report of a text, or its refusal. Want of memory is the only other answer, and it can
+// come only where the bytes had no room. `promises`: what is printed for a query is kept by every history of
+// the meter's monitors.
+pub fn annex(out: &mut Vec<u8>, text: &[u8]) -> Result<(), AllocError>
+    ensures report { Appended result out.old out.new (annex_output text.now) }
+    ensures promises { PromisesKept text.now }
+{
+    let mut scheme = Scheme::bare();
+    match read(&mut scheme, text) {
+        Ok(()) => put_report(out, &scheme, scheme.draft()),
+        Err(fault) => put_refusal(out, fault.report()),
+    }
+}

@@ -1,0 +1,23 @@
+// The line that tells a refusal.
+ghost use Rattle.render.specs.Appended.{Appended};
+ghost use Rattle.report.specs.Answers.{refused_line};
+
+use render::{Word, put_line};
+use std::alloc::AllocError;
+use words::fault::Report;
+
+// Number, line and place of a refusal. `Display` of a `Report` prints the same; here it is appended, and the
+// contract says when memory can be wanting, which `write!` does not.
+pub fn put_refusal(out: &mut Vec<u8>, report: Report) -> Result<(), AllocError>
+    ensures { Appended result out.old out.new (refused_line report) }
+{
+    put_line(
+        out,
+        b"refused",
+        &[
+            Word::Number(report.number as u64),
+            Word::Number(report.line as u64),
+            Word::Number(report.place as u64),
+        ],
+    )
+}

@@ -1,3 +1,0 @@
-mod Named
-pub mod Made
-pub mod Sound

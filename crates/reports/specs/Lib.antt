@@ -1,4 +1,0 @@
-pub mod Names
-pub mod Moves
-pub mod Answers
-pub mod Reports
