@@ -8,3 +8,4 @@ mod Exchanging
 mod Stepping
 pub mod Leading
 mod Closing
+mod Labelling

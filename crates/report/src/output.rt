@@ -11,7 +11,7 @@ use text::read::read;
 
 // Appends the report of a text, or its refusal. Want of memory is the only other answer, and it can
 // come only where the bytes had no room. `promises`: what is printed for a query is kept by every history of
-// the meter's monitors.
+// the monitors of the text's scheme.
 pub fn annex(out: &mut Vec<u8>, text: &[u8]) -> Result<(), AllocError>
     ensures report { Appended result out.old out.new (annex_output text.now) }
     ensures promises { PromisesKept text.now }

@@ -6,8 +6,8 @@ use render::{Word, put_line};
 use std::alloc::AllocError;
 use words::fault::Report;
 
-// Number, line and place of a refusal. `Display` of a `Report` prints the same; here it is appended, and the
-// contract says when memory can be wanting, which `write!` does not.
+// Number, line and place of a refusal. Appended, and no `Display`: the contract says when memory can be
+// wanting, which `write!` does not.
 pub fn put_refusal(out: &mut Vec<u8>, report: Report) -> Result<(), AllocError>
     ensures { Appended result out.old out.new (refused_line report) }
 {

@@ -1,5 +1,5 @@
 -- Number, line and place of each fault of the words.
-use Rattle.std.specs.Prelude.{ℕ, List, ◌++◌, codes, decimal}
+use Rattle.std.specs.Prelude.{ℕ}
 use Rattle.words.specs.declared.position.Spot.{Spot}
 use Rattle.words.specs.declared.fault.Report.{Report}
 use Rattle.words.specs.declared.fault.WordFault.{WordFault}
@@ -12,7 +12,3 @@ abbrev pub word_report : WordFault → Report
 word_report LongText = record { number = 4; line = 0; place = 0 }
 word_report (Byte s) = at 1 s
 word_report (LongWord s) = at 2 s
-
--- as it is printed: number, line and place
-abbrev pub report_text : Report → List ℕ
-report_text r = decimal r.number ++ codes " " ++ decimal r.line ++ codes " " ++ decimal r.place

@@ -1,5 +1,5 @@
 -- Worked examples, as facts about the definitions.
-use Rattle.std.specs.Prelude.{◌≡◌, ℕ, ◌^◌, true, false, List, [], ◌∷◌, Some, None, Ok, Err, Result}
+use Rattle.std.specs.Prelude.{◌≡◌, ℕ, true, false, List, [], ◌∷◌, Some, None, Ok, Err, Result}
 use Rattle.protection.specs.Systems.{System, system_of}
 use Rattle.protection.specs.Refusals.{Refused}
 use Rattle.protection.specs.Answers.{Said}
@@ -13,17 +13,20 @@ use Rattle.scheme.specs.declared.terms.Comparison.TheVariants.{NotEqual}
 use Rattle.scheme.specs.declared.terms.Action.TheVariants.{Assign, Add, Sub}
 use Rattle.scheme.specs.Models.{SchemeModel, bare_model}
 use Rattle.scheme.specs.Counts.{state_count, move_count}
-use Rattle.scheme.specs.Sizes.{sizes_of, size_states}
+use Rattle.scheme.specs.Sizes.{sizes_of}
 use Rattle.codes.specs.Objects.{there}
 use Rattle.enforcement.specs.declared.predicates.Operator.TheVariants.{Compare}
 use Rattle.enforcement.specs.Parties.{Parties}
 use Rattle.enforcement.specs.Predicates.{meets}
 use Rattle.enforcement.specs.Actions.{acted, ran}
 use Rattle.record.specs.States.{number, state_from}
-use Rattle.record.specs.Systems.{object_count, start_state, step_of}
+use Rattle.record.specs.Systems.{object_count, start_state, step_of, label_of}
+use Rattle.words.specs.Outcomes.{and_then}
+use Rattle.words.specs.Positions.{PlainLine}
+use Rattle.words.specs.Cuts.{text_lines}
 use Rattle.text.specs.declared.fault.SchemeFault.{SchemeFault}
 use Rattle.text.specs.Faults.{scheme_report}
-use Rattle.text.specs.Reading.{reading}
+use Rattle.text.specs.Reading.{Progress, start, read_line, reading}
 use Rattle.text.specs.Writing.{written}
 use Rattle.report.specs.Reports.{annex_output}
 use Rattle.worked_examples.specs.Texts.{meter, meter_report, most, too_many}
@@ -36,6 +39,11 @@ Declares text P = (m : SchemeModel) × ((reading text ≡ Ok m) × P m)
 abbrev pub Refuses : List ℕ → ℕ → Type 0
 Refuses text n = (f : SchemeFault) × ((reading text ≡ Err f) × ((scheme_report f).number ≡ n))
 
+-- what lines declare, before the end of their text is judged
+abbrev pub declared_by : List PlainLine → Progress → Result Progress SchemeFault
+declared_by [] p = Ok p
+declared_by (l ∷ ls) p = and_then (read_line p l) (declared_by ls)
+
 -- the meter
 pub record Meter (m : SchemeModel) : Type 0 where
   pub states : state_count m ≡ 169
@@ -46,6 +54,7 @@ pub record Meter (m : SchemeModel) : Type 0 where
   pub refills : step_of m 54 5 ≡ Some 132
   pub refills_not_at_first : step_of m 93 5 ≡ None
   -- move 0 pairs ann with herself
+  pub herself : label_of m 0 ≡ Some (record { subject = 0; object = 0; right = 0 })
   pub never_with_herself : (x : ℕ) → step_of m x 0 ≡ None
 
 -- one attribute of a subject and of an object
@@ -80,7 +89,7 @@ pub record WorkedExamples : Type 0 where
   -- the second assignment reads what the first one wrote
   pub assigned_in_turn : ran (2 ∷ []) (Assign (only Subject) (ObjectAttribute 0) ∷ Assign (only Object) (SubjectAttribute 0) ∷ []) (having 1 0) ≡ Some (having 0 0)
   pub most_states : Declares most (λ m. state_count m ≡ 1048576)
-  pub more_states : size_states (31 ∷ 31 ∷ []) ^ 2 ≡ 1050625
+  pub more_states : (p : Progress) × ((declared_by (text_lines too_many) start ≡ Ok p) × (state_count p.scheme ≡ 1050625))
   pub more_are_refused : Refuses too_many 25
   pub table_leaks : asked 0 1 0 ≡ Ok (record { leaks = true; found = 1; tried = 1; length = 1 })
   pub table_never : asked 1 0 0 ≡ Ok (record { leaks = false; found = 2; tried = 2; length = 0 })

@@ -1,5 +1,5 @@
 // The steps and the labels of moves.
-ghost use Rattle.std.specs.Prelude.{◌≡◌, ◌<◌, ◌≢◌, IfSome};
+ghost use Rattle.std.specs.Prelude.{◌≡◌, ℕ, ◌<◌, ◌≢◌, Some, IfSome};
 ghost use Rattle.std.specs.Option.{option_map};
 ghost use Rattle.scheme.specs.Models.{policy_of};
 ghost use Rattle.scheme.specs.Sizes.{sizes_of};
@@ -7,8 +7,8 @@ ghost use Rattle.scheme.specs.Counts.{state_count};
 ghost use Rattle.enforcement.specs.Coded.{enforced_pair};
 ghost use Rattle.record.specs.States.{number, state_from};
 ghost use Rattle.record.specs.Numberings.{pair_at};
-ghost use Rattle.record.specs.Moves.{move_of};
-ghost use Rattle.record.specs.Systems.{object_count, state_after, step_of, label_of};
+ghost use Rattle.record.specs.Moves.{move_of, IsMove};
+ghost use Rattle.record.specs.Systems.{object_count, policy_at, state_after, step_of, label_of};
 ghost use Rattle.record.specs.Relation.{Steps};
 ghost use Rattle.record.specs.Schemes.{scheme_of};
 ghost use Rattle.record.specs.Uses.{sizes_in, policy_in};
@@ -104,8 +104,7 @@ impl Scheme {
         self.next_state(state, mv)
     }
 
-    // The permission that a move is a use of.
-    pub fn label(&self, mv: u32) -> Option<Permission>
+    fn label_at(&self, mv: u32) -> Option<Permission>
         ensures { result ≡ label_of (scheme_of self.now) mv }
     {
         let entry = self.use_of(mv)?;
@@ -114,5 +113,14 @@ impl Scheme {
             object: entry.mv.object,
             right: entry.policy().right,
         })
+    }
+
+    // The permission that a move is a use of. `numbered`: the move of a policy on a subject and an object is
+    // labelled with these two and the policy's right.
+    pub fn label(&self, mv: u32) -> Option<Permission>
+        ensures value { result ≡ label_of (scheme_of self.now) mv }
+        ensures numbered { (p s o : ℕ) → IsMove (scheme_of self.now) mv p s o → result ≡ Some (record { subject = s; object = o; right = (policy_at (scheme_of self.now) p).right }) }
+    {
+        self.label_at(mv)
     }
 }

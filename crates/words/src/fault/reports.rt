@@ -1,10 +1,9 @@
 // Number, line and place of each fault of the words.
-ghost use Rattle.std.specs.Prelude.{◌≡◌, Some};
-ghost use Rattle.words.specs.Faults.{at as report_at, word_report, report_text};
+ghost use Rattle.std.specs.Prelude.{◌≡◌};
+ghost use Rattle.words.specs.Faults.{at as report_at, word_report};
 
 use super::{Report, WordFault};
 use crate::position::Spot;
-use std::fmt;
 
 impl Report {
     pub fn at(number: u32, spot: Spot) -> Report
@@ -15,14 +14,6 @@ impl Report {
             line: spot.line,
             place: spot.place,
         }
-    }
-}
-
-impl fmt::Display for Report {
-    ghost output = { λ r. Some (report_text r) };
-
-    fn fmt<W: fmt::Write>(&self, f: &mut fmt::Formatter<W>) -> fmt::Result {
-        write!(f, "{} {} {}", self.number, self.line, self.place)
     }
 }
 

@@ -28,6 +28,7 @@ worked_examples =
             drives = refl;
             refills = refl;
             refills_not_at_first = refl;
+            herself = refl;
             never_with_herself = λ x. nothing (ltb x 169);
           },
         ),
@@ -40,7 +41,7 @@ worked_examples =
       add_to_the_size_fails = refl;
       assigned_in_turn = refl;
       most_states = (_, (refl, refl));
-      more_states = refl;
+      more_states = (_, (refl, refl));
       more_are_refused = (_, (refl, refl));
       table_leaks = refl;
       table_never = refl;
