@@ -1,14 +1,41 @@
 #!/usr/bin/env python3
 """Plants bugs one at a time, checks the crate, and prints which of them the proofs let pass.
 
-    tools/plant.py LIST [CRATE]
+    tools/plant.py [CRATE..]        of these crates, or of all that have a list
 
-LIST has a line `CRATE FILE` and then a line `OLD ==> NEW` for each bug in that file; OLD stands once in it.
-The file is put back after each check. A survivor is a bug with which the crate is still proved.
+The list of a crate is tools/bugs/CRATE.txt. It has the name of a file below the crate, and then for each bug in
+that file a line
+
+    OLD ==> NEW
+
+where OLD stands once in the file. A bug that changes nothing that a caller can see stands as
+
+    equivalent: OLD ==> NEW
+
+below a line `# REASON`. The file is put back after each check. A survivor is a bug with which the crate is still
+proved; of an equivalent one it is said whether it is proved, and it counts in neither sum.
 """
+import os
 import subprocess
 import sys
 import time
+
+LISTS = os.path.join(os.path.dirname(__file__), "bugs")
+EQUIVALENT = "equivalent: "
+
+
+def bugs_of(crate):
+    """The bugs of a crate: the file, the text that stands there, the text that is planted, whether it is one."""
+    path = None
+    for line in open(os.path.join(LISTS, crate + ".txt"), encoding="utf-8").read().splitlines():
+        if not line or line.startswith("#"):
+            continue
+        if " ==> " not in line:
+            path = "crates/%s/%s" % (crate, line)
+            continue
+        is_bug = not line.startswith(EQUIVALENT)
+        old, new = (line if is_bug else line[len(EQUIVALENT):]).split(" ==> ")
+        yield path, old, new, is_bug
 
 
 def first_error(text):
@@ -25,35 +52,34 @@ def check(crate):
     return bool(verdicts) and verdicts[-1].startswith("logic=proved"), text
 
 
+def plant(crate, path, old, new):
+    """Whether the crate is proved with NEW in the place of OLD, and what the check said; none where OLD is not once there."""
+    source = open(path, encoding="utf-8").read()
+    if source.count(old) != 1:
+        print("BAD %s: %r stands %d times" % (path, old, source.count(old)), flush=True)
+        return None
+    try:
+        open(path, "w", encoding="utf-8").write(source.replace(old, new))
+        return check(crate)
+    finally:
+        open(path, "w", encoding="utf-8").write(source)
+
+
 def main():
-    wanted = sys.argv[2:]
-    crate = path = None
-    survivors = planted = 0
-    for line in open(sys.argv[1], encoding="utf-8"):
-        line = line.rstrip("\n")
-        if not line or line.startswith("#"):
-            continue
-        if " ==> " not in line:
-            crate, name = line.split()
-            path = "crates/%s/%s" % (crate, name)
-            continue
-        if wanted and crate not in wanted:
-            continue
-        old, new = line.split(" ==> ")
-        source = open(path, encoding="utf-8").read()
-        if source.count(old) != 1:
-            print("BAD %s: %r stands %d times" % (path, old, source.count(old)), flush=True)
-            continue
-        begun = time.time()
-        try:
-            open(path, "w", encoding="utf-8").write(source.replace(old, new))
-            proved, text = check(crate)
-        finally:
-            open(path, "w", encoding="utf-8").write(source)
-        planted += 1
-        survivors += proved
-        print("%s %3ds %s: %s => %s   %s" % ("SURVIVES" if proved else "refused ", time.time() - begun, path, old, new,
-                                             "" if proved else first_error(text)), flush=True)
+    crates = sys.argv[1:] or sorted(name[:-len(".txt")] for name in os.listdir(LISTS))
+    planted = survivors = 0
+    for crate in crates:
+        for path, old, new, is_bug in bugs_of(crate):
+            begun = time.time()
+            answer = plant(crate, path, old, new)
+            if answer is None:
+                continue
+            proved, text = answer
+            planted += is_bug
+            survivors += is_bug and proved
+            word = "refused " if not proved else "SURVIVES" if is_bug else "alike   "
+            print("%s %3ds %s: %s => %s   %s" % (word, time.time() - begun, path, old, new,
+                                                 "" if proved else first_error(text)), flush=True)
     print("%d planted, %d survive" % (planted, survivors))
 
 
