@@ -9,7 +9,7 @@ Makes the cases of crates/table_cases and what the program must print:
 
 And compares the program with these rules on random cases, after `rt run` in crates/table_cases has built it:
 
-    reference/tables.py compare COUNT SEED
+    reference/tables.py compare COUNT SEED [MOST STATES]
 """
 import random
 import subprocess
@@ -300,19 +300,19 @@ def random_cases(count, seed=SEED, most=9):
         yield show_case([states, moves, objects, rights, rng.randrange(states)], labels, entries, inner, outer, asked)
 
 
-def compare(count, seed):
-    """Stops at the first hundred cases of which the program prints something else."""
+def compare(count, seed, most):
+    """Stops at the first hundred cases, of at most so many states, of which the program prints something else."""
     for begun in range(0, count, 100):
-        text = "".join("\n".join(case) + "\n" for case in random_cases(100, seed + begun, most=40))
+        text = "".join("\n".join(case) + "\n" for case in random_cases(100, seed + begun, most))
         printed = subprocess.run(["crates/table_cases/out/table_cases"], input=text, capture_output=True, text=True, check=True).stdout
         if printed != "".join(line + "\n" for line in answer(text.splitlines())):
             sys.exit("differs on the cases with seed %d" % (seed + begun))
-    print("%d cases, no difference" % count)
+    print("%d cases of at most %d states, no difference" % (count, most))
 
 
 def main():
-    if sys.argv[1:2] == ["compare"] and len(sys.argv) == 4:
-        compare(int(sys.argv[2]), int(sys.argv[3]))
+    if sys.argv[1:2] == ["compare"] and len(sys.argv) in (4, 5):
+        compare(int(sys.argv[2]), int(sys.argv[3]), int((sys.argv[4:] or ["40"])[0]))
     elif sys.argv[1:] == ["cases"]:
         for case in list(fixed_cases()) + list(random_cases(48)):
             print("\n".join(case))

@@ -16,7 +16,7 @@ import plant
 
 FUNCTION = re.compile(r"^([ \t]*)((?:pub(?:\(crate\))? )?)(?:const )?(?:unsafe )?(?:extern \"C\" )?fn (\w+)", re.M)
 BLOCK = re.compile(r"^(?:impl|pub trait|trait)\b.*", re.M)
-ITERATES = re.compile(r"\b(?:for [\w()&, ]+ in|while|loop)\b|\.(?:find|position|any|all|fold|count|collect|extend|iter|contains|fill)\(")
+ITERATES = re.compile(r"\b(?:for [\w()&, ]+ in|while|loop)\b|\.(?:find|position|any|all)\(\s*\||\.(?:fold|count|collect|extend|contains|fill)\(\s*(?:\||\)|&|\d)")
 
 
 class Function:

@@ -6,7 +6,7 @@ use Rattle.std.proofs.lemmas.Bool.{false≢true, and_parts, and_from, ltb-true, 
 use Rattle.scheme.specs.Sizes.{size_combinations, size_states}
 use Rattle.scheme.specs.WellFormed.{value_fits, values_fit}
 use Rattle.codes.specs.Objects.{ObjectState, absent, there, object_fits}
-use Rattle.codes.specs.Codes.{part, weighed, code, from_part, values_from, object_from}
+use Rattle.codes.specs.Codes.{part, weighed, code, from_part, values_from, object_from, Corresponds}
 
 -- the weighed sum, by Horner's rule
 abbrev pub horner : List ℕ → List (Option ℕ) → ℕ
@@ -91,3 +91,12 @@ code_object ks (suc c) h = code_horner ks (values_from ks c) ∙ ap suc (horner_
 pub fits_object : (ks : List ℕ) (c : ℕ) → object_fits ks (object_from ks c) ≡ true
 fits_object ks zero = refl
 fits_object ks (suc c) = fit_values ks c
+
+pub corresponds : (ks : List ℕ) → Corresponds ks
+corresponds ks =
+    record {
+      code_below = code_below ks;
+      object_of_code = object_code ks;
+      is_object = fits_object ks;
+      code_of_object = code_object ks;
+    }

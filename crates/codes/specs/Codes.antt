@@ -1,8 +1,8 @@
 -- The codes of objects. `ks` has the size of each attribute.
-use Rattle.std.specs.Prelude.{ℕ, zero, suc, ◌+◌, ◌-◌, ◌*◌, ◌/◌, ◌%◌, cond, List, [], ◌∷◌, Some, None, Option, nat_lt, slice_index_or}
+use Rattle.std.specs.Prelude.{◌≡◌, ℕ, zero, suc, ◌+◌, ◌-◌, ◌*◌, ◌/◌, ◌%◌, ◌<◌, true, cond, List, [], ◌∷◌, Some, None, Option, nat_lt, slice_index_or}
 use Rattle.std.specs.Option.{option_map}
 use Rattle.scheme.specs.Sizes.{size_states}
-use Rattle.codes.specs.Objects.{ObjectState, absent, there, updated}
+use Rattle.codes.specs.Objects.{ObjectState, absent, there, object_fits, updated}
 
 -- the part of a value: 0 for null, v + 1 for the value v
 abbrev pub part : Option ℕ → ℕ
@@ -35,6 +35,13 @@ values_from (k ∷ ks) c = from_part (c % (k + 1)) ∷ values_from ks (c / (k + 
 abbrev pub object_from : List ℕ → ℕ → ObjectState
 object_from ks zero = absent
 object_from ks (suc c) = there (values_from ks c)
+
+-- the objects of these sizes and the numbers below the count of codes correspond one to one
+pub record Corresponds (ks : List ℕ) : Type 0 where
+  pub code_below : (x : ObjectState) → object_fits ks x ≡ true → code ks x < size_states ks
+  pub object_of_code : (x : ObjectState) → object_fits ks x ≡ true → object_from ks (code ks x) ≡ x
+  pub is_object : (c : ℕ) → object_fits ks (object_from ks c) ≡ true
+  pub code_of_object : (c : ℕ) → c < size_states ks → code ks (object_from ks c) ≡ c
 
 -- the value, or null, of an attribute in the code of an object that is there
 abbrev pub value_in : List ℕ → ℕ → ℕ → Option ℕ

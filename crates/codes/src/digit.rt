@@ -9,7 +9,7 @@ use scheme::entries::value_fits;
 
 // The size of the attribute, how many parts it has, and what part 1 of it counts for.
 #[derive(Clone, Copy)]
-pub struct Digit {
+pub(crate) struct Digit {
     pub(crate) size: u8,
     parts: Divisor,
     pub(crate) weight: Divisor,

@@ -8,7 +8,7 @@
 #![tactic(auto)]
 
 pub mod codes;
-pub mod digit;
+mod digit;
 pub mod divisor;
 pub mod object;
 

@@ -87,15 +87,6 @@ module _ (ks : List ℕ) where
         c.coded,
       )
 
-  pub ran_fails : (xs : List Action) (i : ℕ) (a : Action) (p : Pair) → i < length xs → None ≡ on_codes ks (acted ks (get_or xs i a)) p
-      → None ≡ on_codes ks (ran ks (drop i xs)) p
-  ran_fails xs i a p inside e =
-      sym (at_drop_more (λ l. on_codes ks (ran ks l) p) xs i a inside ∙ fails (acted ks (get_or xs i a) (parties_from ks p)) e)
-    where
-      fails : (z : Option Parties) → None ≡ option_map (pair_of ks) z → option_map (pair_of ks) (and_then z (ran ks (drop (i + 1) xs))) ≡ None
-      fails None e = refl
-      fails (Some q) e = absurd (none_some _ e)
-
   pub ran_none : (p : Pair) → Coded ks p → Some p ≡ on_codes ks (ran ks []) p
   ran_none p h =
       ap Some (ap (λ n. record { subject = n; object = p.object }) (sym (code_object ks p.subject h.subject))

@@ -7,7 +7,7 @@
 // policy       all predicates, then all actions in order
 #![tactic(auto)]
 
-pub mod actions;
+mod actions;
 pub mod pair;
 mod parties;
 pub mod policy;

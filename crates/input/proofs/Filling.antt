@@ -2,7 +2,7 @@
 use Rattle.std.proofs.Common.{◌≡◌, ℕ, ◌+◌, ◌≤◌, List, ◌++◌, length, take, Option, Some, None, sym, ap, ◌∙◌}
 use Rattle.std.proofs.lemmas.List.{length-take-le, take-append-le, append_assoc}
 use Rattle.std.proofs.Math.Seq.{take-append-add}
-use Rattle.std.specs.Io.KnownBytes.{Consumes}
+use Rattle.std.specs.Io.KnownBytes.{Consumes, Keeps}
 use borrow.Rule.Slice.PartMut.{put_mid, post_of}
 
 -- n bytes more stand behind the first a
@@ -19,3 +19,10 @@ consumes_more (Some xs) None rest first second one two = elim one [ ]
 consumes_more (Some xs) (Some ys) None first second one two = elim two [ ]
 consumes_more (Some xs) (Some ys) (Some zs) first second one two =
     one ∙ ap (λ l. first ++ l) two ∙ sym (append_assoc first second zs)
+
+-- what was consumed before a read that fails is all that was consumed
+pub consumes_kept : (left mid rest : Option (List ℕ)) (first : List ℕ) → Consumes left mid first → Keeps mid rest → Consumes left rest first
+consumes_kept None mid rest first one kept = tt
+consumes_kept (Some xs) None rest first one kept = elim one [ ]
+consumes_kept (Some xs) (Some ys) None first one kept = elim kept [ ]
+consumes_kept (Some xs) (Some ys) (Some zs) first one kept = one ∙ ap (λ l. first ++ l) (sym kept)

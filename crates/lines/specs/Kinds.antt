@@ -29,8 +29,8 @@ abbrev pub last_rank : Option Kind → ℕ
 last_rank None = 0
 last_rank (Some k) = rank k
 
--- a line of a kind may stand below these: an `if` line below a policy or an `if` line, a `do` line
--- below either or a `do` line, any other below all kinds up to its own
+-- a line of a kind may stand below these: an `if` line below a `policy` or an `if` line, a `do` line below either or a
+-- `do` line, any other below all kinds up to its own, where the `if` and `do` lines of a policy are of its kind
 abbrev pub in_order : Option Kind → Kind → Bool
 in_order last Attr = nat_le (last_rank last) 0
 in_order last Right = nat_le (last_rank last) 1

@@ -1,4 +1,8 @@
-// A monitor over any protection system: it grants what is enabled, and nothing else.
+// A monitor over any protection system: it grants what is enabled, and nothing else. Its calls answer and move as
+// the definitions of histories say, of which the safety promise speaks.
+//
+// denial    why a call is refused
+// evidence  the replay of a witness by a new monitor, and an analysis whose leaks are replayed
 #![tactic(auto)]
 
 ghost use Rattle.std.specs.Prelude.{◌≡◌};

@@ -12,7 +12,7 @@ use Rattle.protection.specs.declared.permission.Permission.{Permission}
 use Rattle.protection.specs.Systems.{System, labelled, within_counts}
 use Rattle.protection.specs.Refusals.{Refused, refused}
 use Rattle.protection.specs.Histories.{Call, enforce, request, may, state, restart, enabled, enabled_as, lowest_enabled, enforce_answer, request_answer, may_answer, granted, moved, after, leaves, grants, history_leaves, history_grants}
-use Rattle.protection.proofs.LowestLaws.{lowest_passes}
+use Rattle.protection.proofs.LowestLaws.{lowest_first}
 
 -- an accepted answer has passed its tests
 ok_both : (a b : Bool) (k m : ℕ) (e f : Refused) → result_ok (cond a (cond b (Ok k) (Err e)) (Err f)) ≡ Some m → (b ≡ true) × (k ≡ m)
@@ -53,7 +53,7 @@ module _ (system : System) where
       → (enabled system s m ≡ true) × (labelled system m p ≡ true)
   lowest_sound s p m e =
       and_parts (enabled system s m) (labelled system m p)
-      (lowest_passes (enabled_as system s p) system.walk.moves m e)
+      (lowest_first (enabled_as system s p) system.walk.moves m e).passes
 
   -- a yes has found a move
   pub yes_finds : (s : ℕ) (p : Permission) → may_answer system s p ≡ Ok true → is_some (lowest_enabled system s p) ≡ true

@@ -13,7 +13,7 @@ same_true p q e =
     let er = eqb-true p.right q.right b.1 in
     λ i. record { subject = es i; object = eo i; right = er i }
 
-same_itself : (p : Permission) → same p p ≡ true
+pub same_itself : (p : Permission) → same p p ≡ true
 same_itself p =
     and_from (eqb p.subject p.subject) (eqb p.object p.object && eqb p.right p.right) (eq-eqb p.subject p.subject refl)
     (and_from (eqb p.object p.object) (eqb p.right p.right) (eq-eqb p.object p.object refl) (eq-eqb p.right p.right refl))

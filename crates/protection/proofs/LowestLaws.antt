@@ -47,14 +47,24 @@ lowest_none test (suc n) k none lt =
     (λ ne. let low : k < n = omega (arith, ne) in lowest_none test n k parts.0 low)
     (cases_eq k n)
 
--- what is found passes
-pub lowest_passes : (test : ℕ → Bool) (n i : ℕ) → lowest test n ≡ Some i → test i ≡ true
-lowest_passes test zero i found = let z : ◌≡◌ {A = ℕ} 0 1 = cc in absurd (omega arith)
-lowest_passes test (suc n) i found = go (lowest test n) (test n) refl refl found (λ e. lowest_passes test n i e)
+-- a number below the bound passes, and none below it does
+pub record Lowest (test : ℕ → Bool) (n i : ℕ) : Type 0 where
+  pub below : i < n
+  pub passes : test i ≡ true
+  pub least : (k : ℕ) → k < i → test k ≡ false
+
+-- what is found is such a number
+pub lowest_first : (test : ℕ → Bool) (n i : ℕ) → lowest test n ≡ Some i → Lowest test n i
+lowest_first test zero i found = let z : ◌≡◌ {A = ℕ} 0 1 = cc in absurd (omega arith)
+lowest_first test (suc n) i found = go (lowest test n) (test n) refl refl found (λ e. lowest_first test n i e)
   where
     go : (o : Option ℕ) (b : Bool) → lowest test n ≡ o → test n ≡ b
         → elim o as (λ _. Option ℕ) [ Some j ↦ Some j | None ↦ cond b (Some n) None ] ≡ Some i
-        → (lowest test n ≡ Some i → test i ≡ true) → test i ≡ true
-    go (Some j) b e f same before = before (e ∙ same)
-    go None true e f same before = let q : i ≡ n = cc in rw q f
+        → (lowest test n ≡ Some i → Lowest test n i) → Lowest test (suc n) i
+    go (Some j) b e f same before =
+        let r = before (e ∙ same) in
+        record { below = omega (arith, r.below); passes = r.passes; least = r.least }
+    go None true e f same before =
+        let q : i ≡ n = cc in
+        record { below = omega (arith, q); passes = rw q f; least = λ k low. lowest_none test n k e (omega (arith, low, q)) }
     go None false e f bad before = let z : ◌≡◌ {A = ℕ} 0 1 = cc in absurd (omega arith)

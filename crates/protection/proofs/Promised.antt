@@ -34,7 +34,7 @@ module _ (system : System) (bounds : Bounds system.walk) (q : Permission) where
   }
 
   -- a history with a grant of q or a yes to q has such a run
-  contains_meets : (calls : List Call) → Contains system q calls → (ms : List ℕ) × Meets system.walk (at_label system q) ms
+  pub contains_meets : (calls : List Call) → Contains system q calls → (ms : List ℕ) × Meets system.walk (at_label system q) ms
   contains_meets calls (before, c, later, split, inl (k, g, label)) =
       (_, meets_after before k (after system (history_leaves system before) c) (granted_step system (history_leaves system before) c k g) (has_label_itself (system.label k) q label))
   contains_meets calls (before, c, later, split, inr (is-may, says)) =
@@ -45,11 +45,11 @@ module _ (system : System) (bounds : Bounds system.walk) (q : Permission) where
       (_, meets_after before k.0 t.0 t.1 sound.1)
 
   -- a history that ends in a grant contains it
-  contains : (calls : List Call) → EndsInGrant system q calls → Contains system q calls
+  pub contains : (calls : List Call) → EndsInGrant system q calls → Contains system q calls
   contains calls (before, c, split, grant) = (before, c, [], split, inl grant)
 
   -- a run that meets the goal is replayed
-  replays : (ms : List ℕ) → Meets system.walk (at_label system q) ms → Replays system q ms
+  pub replays : (ms : List ℕ) → Meets system.walk (at_label system q) ms → Replays system q ms
   replays ms w = record {
     granted_each = enforce_grants system bounds ms system.walk.start t.0 whole;
     last_grants = (

@@ -1,4 +1,13 @@
 // Protection systems: the interface, the analysis of any of them, and its safety promise.
+//
+// permission  a subject, an object and a right
+// interface   what a protection system is: a walk whose moves have labels
+// analysis    whether a permission can ever be granted
+// answers     the verdict, and the refusals of an analysis
+// numbered    refusals by their numbers
+// lent        a system that is lent is a system
+//
+// The safety promise is the clause `safety` of `analyse`; specs/Safety.antt says what it means.
 #![tactic(auto)]
 
 pub mod analysis;

@@ -1,11 +1,9 @@
 -- What an accepted draft has: a start state that is a state, and counts within the bounds.
-use Rattle.std.proofs.Common.{◌≡◌, ℕ, Bool, true, false, cond, ◌&&◌, leb, List, [], ◌∷◌, map, Some, None, sym, refl, ap, ◌∙◌}
+use Rattle.std.proofs.Common.{◌≡◌, ℕ, Bool, true, false, cond, ◌&&◌, List, [], ◌∷◌, map, Some, None, sym, refl, ap, ◌∙◌}
 use Rattle.std.proofs.lemmas.List.{length-map}
 use Rattle.std.proofs.lemmas.Bool.{and_parts, and_from, eq-eqb}
 use Rattle.scheme.specs.Models.{ObjectModel, SchemeModel}
-use Rattle.scheme.specs.Sizes.{sizes_of, size_states}
-use Rattle.scheme.specs.Counts.{state_count}
-use Rattle.scheme.proofs.Sizes.{state_count_sizes}
+use Rattle.scheme.specs.Sizes.{sizes_of}
 use Rattle.scheme.specs.WellFormed.{values_fit, objects_fit, well_formed}
 use Rattle.codes.specs.Objects.{there}
 use Rattle.enforcement.proofs.Fitting.{none_some}
@@ -32,10 +30,6 @@ pub start_is_state : (m : SchemeModel) → well_formed m ≡ true → state_fits
 start_is_state m h =
     and_from _ _ (eq-eqb _ _ (length-map m.objects (λ (o : ObjectModel). there o.values)))
     (fit_start (sizes_of m) m.objects ∙ (and_parts _ _ h).0)
-
--- the counts of an accepted draft are those of its numbering
-pub bounds_of : (m : SchemeModel) → within_bounds (sizes_of m) (object_count m) ≡ (leb (size_states (sizes_of m)) 1048576 && leb (state_count m) 1048576)
-bounds_of m = ap (λ n. leb (size_states (sizes_of m)) 1048576 && leb n 1048576) (sym (state_count_sizes m))
 
 -- the dimensions of the numbering that a draft gets
 pub built : (m : SchemeModel) (ks : List ℕ) (n : ℕ) (d : Dimensions) → ks ≡ sizes_of m → n ≡ object_count m

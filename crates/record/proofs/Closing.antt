@@ -15,7 +15,7 @@ use Rattle.enforcement.proofs.Fitting.{none_some, fits_enforced}
 use Rattle.record.specs.States.{all_fit, state_fits, number, state_from}
 use Rattle.record.specs.Moves.{move_at}
 use Rattle.record.specs.Systems.{object_count, policy_at, state_after, Step}
-use Rattle.record.proofs.Digits.{is_state, number_below, below_count}
+use Rattle.record.proofs.Digits.{is_state, number_below}
 use Rattle.record.proofs.Exchanging.{fit_replaced}
 use Rattle.record.proofs.Leading.{step_parts}
 
@@ -58,6 +58,5 @@ step_closed m x =
         let mv = move_at n x.by in
         let is : number ks u ≡ x.to = cc in
         subst (λ k. k < state_count m) is
-        (below_count m (number ks u)
         (number_below ks n u
-        (enforced_is_state ks n (policy_at m mv.policy).predicates (policy_at m mv.policy).actions mv.subject mv.object (state_from ks n x.from) u (is_state ks n x.from) f)))
+        (enforced_is_state ks n (policy_at m mv.policy).predicates (policy_at m mv.policy).actions mv.subject mv.object (state_from ks n x.from) u (is_state ks n x.from) f))

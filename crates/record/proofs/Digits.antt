@@ -4,10 +4,7 @@ use native.Mathlib.Nat.{pow-zero}
 use lib.Arith.{digits_lt, digits_div, digits_mod}
 use Rattle.std.proofs.lemmas.Nat.{div_below, mod_below}
 use Rattle.std.proofs.lemmas.Bool.{and_parts, and_from, eqb-true, eq-eqb}
-use Rattle.scheme.specs.Models.{SchemeModel}
-use Rattle.scheme.specs.Sizes.{sizes_of, size_states}
-use Rattle.scheme.specs.Counts.{state_count}
-use Rattle.scheme.proofs.Sizes.{state_count_sizes}
+use Rattle.scheme.specs.Sizes.{size_states}
 use Rattle.codes.specs.Objects.{object_fits}
 use Rattle.codes.specs.Codes.{code}
 use Rattle.codes.proofs.Digits.{code_below, object_code, code_object, fits_object}
@@ -81,14 +78,6 @@ is_state ks n m = and_from _ _ (eq-eqb _ _ (length_state ks n m)) (fit_state ks 
 
 pub number_of_state : (ks : List ℕ) (n m : ℕ) → m < size_states ks ^ n → number ks (state_from ks n m) ≡ m
 number_of_state ks n m h = number_horner ks (state_from ks n m) ∙ horner_state ks n m h
-
--- the states of a scheme are counted by the sizes of its attributes alone
-
-pub below_power : (m : SchemeModel) (x : ℕ) → x < state_count m → x < size_states (sizes_of m) ^ length m.objects
-below_power m x h = omega (arith, state_count_sizes m)
-
-pub below_count : (m : SchemeModel) (x : ℕ) → x < size_states (sizes_of m) ^ length m.objects → x < state_count m
-below_count m x h = omega (arith, state_count_sizes m)
 
 pub corresponds : (ks : List ℕ) (n : ℕ) → Corresponds ks n
 corresponds ks n =

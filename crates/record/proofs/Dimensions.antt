@@ -1,8 +1,7 @@
 -- The numbering of a scheme record is that of its attributes and objects.
-use Rattle.std.proofs.Common.{◌≡◌, ◌^◌, sym, ap, ◌∙◌}
+use Rattle.std.proofs.Common.{◌≡◌, ◌^◌, ap, ◌∙◌}
 use Rattle.scheme.specs.Sizes.{sizes_of, size_states}
 use Rattle.scheme.specs.Counts.{state_count}
-use Rattle.scheme.proofs.Sizes.{state_count_sizes}
 use Rattle.record.specs.declared.record.Scheme.{Scheme}
 use Rattle.record.specs.Numberings.{Dimensions, dimensions_of}
 use Rattle.record.specs.Systems.{object_count}
@@ -14,4 +13,4 @@ dimensions s =
     ∙ ap (λ n. record { sizes = sizes_of (scheme_of s); objects = n }) s.numbered
 
 pub states_counted : (s : Scheme) → size_states (dimensions_of s.numbering).sizes ^ (dimensions_of s.numbering).objects ≡ state_count (scheme_of s)
-states_counted s = ap (λ (d : Dimensions). size_states d.sizes ^ d.objects) (dimensions s) ∙ sym (state_count_sizes (scheme_of s))
+states_counted s = ap (λ (d : Dimensions). size_states d.sizes ^ d.objects) (dimensions s)

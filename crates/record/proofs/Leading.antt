@@ -14,7 +14,7 @@ use Rattle.record.specs.States.{number, state_from}
 use Rattle.record.specs.Moves.{move_at, InScheme}
 use Rattle.record.specs.Systems.{object_count, policy_at, state_after, step_of}
 use Rattle.record.specs.Relation.{Leads, Steps}
-use Rattle.record.proofs.Digits.{number_below, state_of_number, is_state, number_of_state, below_power, below_count}
+use Rattle.record.proofs.Digits.{number_below, state_of_number, is_state, number_of_state}
 use Rattle.record.specs.SystemLaws.{objects_some, policy_below}
 use Rattle.record.proofs.MoveNumbers.{whole, together}
 
@@ -61,7 +61,7 @@ step_leads m x v y e =
           is_move = record { policy = within.policy; subject = within.subject; object = within.object; number = whole n v };
           before = state_from ks n x;
           is_state = is_state ks n x;
-          from = sym (number_of_state ks n x (below_power m x hx));
+          from = sym (number_of_state ks n x hx);
           after = u;
           enforces = (enforcement_agrees ks (policy_at m is.policy).predicates (policy_at m is.policy).actions is.subject is.object (state_from ks n x) u).0 f;
           to = cc;
@@ -80,7 +80,7 @@ leads_step m x v y h =
     ap (λ k. record { policy = k; subject = v / n % n; object = v % n }) is.policy
     ∙ ap (λ k. record { policy = p; subject = k; object = v % n }) is.subject
     ∙ ap (λ k. record { policy = p; subject = s; object = k }) is.object in
-    let known : x < state_count m = below_count m x (rw h.from (number_below ks n h.before h.is_state)) in
+    let known : x < state_count m = rw h.from (number_below ks n h.before h.is_state) in
     let state_is : state_from ks n x ≡ h.before = ap (λ k. state_from ks n k) h.from ∙ state_of_number ks n h.before h.is_state in
     let after_is : state_after m (move_at n v) (state_from ks n x) ≡ Some h.after =
     ap (λ (k : Move). state_after m k (state_from ks n x)) move_is

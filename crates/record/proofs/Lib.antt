@@ -1,6 +1,6 @@
 pub mod Digits
 mod Powers
-mod MoveNumbers
+pub mod MoveNumbers
 mod Turns
 mod Dimensions
 mod Accepting

@@ -10,9 +10,3 @@ pow_le b i n pos h = pow-le-pow_right pos h
 
 pub pow_pos : (b i : ℕ) → 0 < b → 0 < b ^ i
 pow_pos b i pos = omega (arith, pow_le b 0 i pos (omega arith), pow-zero b)
-
--- a base is at most its power
-pub base_le : (b n : ℕ) → 0 < b → 0 < n → b ≤ b ^ n
-base_le b n pos h =
-    let one : b ^ 1 ≡ b = pow-suc b 0 ∙ ap (λ x. x * b) (pow-zero b) ∙ omega arith in
-    omega (arith, pow_le b 1 n pos h, one)

@@ -1,7 +1,7 @@
 -- A scheme record is within the bounds of walks and the counts of protection systems. Here and not in proofs/, since
 -- the implementation of the interface cites it.
 use Rattle.std.specs.Prelude.{◌≡◌, ℕ, zero, suc, ◌*◌, ◌/◌, ◌%◌, ◌^◌, ◌<◌, ◌≤◌, Bool, true, false, cond, List, [], ◌∷◌, length, Some, None, Option, nat_lt, slice_index_or, refl}
-use Rattle.std.proofs.Common.{sym, ap, subst, ◌∙◌, mul_comm, mul-le-mul, zero-mul, arith}
+use Rattle.std.proofs.Common.{ap, subst, ◌∙◌, mul_comm, mul-le-mul, zero-mul, arith}
 use Rattle.std.proofs.Math.Nat.{pow-zero, pow-le-pow_right}
 use Rattle.std.proofs.lemmas.Nat.{div_below, mod_below}
 use Rattle.std.proofs.lemmas.List.FromFn.{length-map-range_with_len}
@@ -18,7 +18,6 @@ use Rattle.scheme.specs.Models.{PolicyModel, SchemeModel}
 use Rattle.scheme.specs.Sizes.{sizes_of, size_states}
 use Rattle.scheme.specs.Counts.{state_count, move_count}
 use Rattle.scheme.specs.WellFormed.{rights_fit}
-use Rattle.scheme.proofs.Sizes.{state_count_sizes}
 use Rattle.record.specs.declared.record.Scheme.{Scheme}
 use Rattle.record.specs.Moves.{move_at}
 use Rattle.record.specs.Systems.{object_count, no_policy, step_of, permission_of, label_of, walk_of, labels_of}
@@ -41,20 +40,19 @@ states_some m =
     let z : 0 < size_states (sizes_of m) = omega arith in
     let h : 0 ≤ object_count m = omega arith in
     let p : size_states (sizes_of m) ^ 0 ≤ size_states (sizes_of m) ^ object_count m = pow-le-pow_right z h in
-    omega (arith, p, pow-zero (size_states (sizes_of m)), state_count_sizes m)
+    omega (arith, p, pow-zero (size_states (sizes_of m)))
 
 states_few : (s : Scheme) → state_count (scheme_of s) ≤ 1048576
 states_few s =
     let e : s.numbering.states ≡ state_count (scheme_of s) =
-    s.numbering.counted ∙ ap (λ ks. size_states ks ^ length (items s.numbering.places)) s.sized ∙ ap (λ n. size_states (sizes_of (scheme_of s)) ^ n) s.numbered
-    ∙ sym (state_count_sizes (scheme_of s)) in
+    s.numbering.counted ∙ ap (λ ks. size_states ks ^ length (items s.numbering.places)) s.sized ∙ ap (λ n. size_states (sizes_of (scheme_of s)) ^ n) s.numbered in
     omega (arith, s.numbering.few)
 
+pub moves_counted : (s : Scheme) → length (items s.moves) ≡ move_count (scheme_of s)
+moves_counted s = ap length s.listed ∙ length-map-range_with_len (move_at (object_count (scheme_of s))) 0 (move_count (scheme_of s))
+
 moves_few : (s : Scheme) → move_count (scheme_of s) ≤ 2048
-moves_few s =
-    let m = scheme_of s in
-    let e : length (items s.moves) ≡ move_count m = ap length s.listed ∙ length-map-range_with_len (move_at (object_count m)) 0 (move_count m) in
-    omega (arith, length_items 2048 s.moves)
+moves_few s = omega (arith, moves_counted s, length_items 2048 s.moves)
 
 pub scheme_bounds : (s : Scheme) → Bounds (walk_of (scheme_of s))
 scheme_bounds s =

@@ -1,2 +1,5 @@
 mod Named
+mod Spelled
+mod Readings
+mod Legible
 mod Promises

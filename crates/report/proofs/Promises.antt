@@ -1,6 +1,5 @@
 -- What is printed for a query is the analysis, and of that the safety promise holds.
-use Rattle.std.proofs.Common.{◌≡◌, subst, ℕ, Bool, true, false, cond, List, [], ◌++◌, length, take, drop, Ok, Err, Result, sym, refl, ap, inl, inr, arith}
-use Rattle.std.proofs.Math.Seq.{take-append_seam}
+use Rattle.std.proofs.Common.{◌≡◌, subst, ℕ, Bool, true, false, cond, List, [], ◌++◌, Ok, Err, Result, sym, refl, ap, inl, inr, arith}
 use Rattle.std.proofs.lemmas.Bool.{false≢true, leb-true, leb-false}
 use Rattle.std.specs.List.{flat_map}
 use Rattle.scheme.specs.declared.entries.Query.{Query}
@@ -19,17 +18,13 @@ use Rattle.record.specs.Systems.{scheme_system, permission_asked, walk_of}
 use Rattle.report.specs.Moves.{by_line}
 use Rattle.report.specs.Answers.{verdict_line, outcome_lines, answer_lines}
 use Rattle.report.specs.Promises.{Told, Promised}
-
--- the witness is as long as the verdict says
-witness_length : (o : Outcome) → witness_of o ≡ take (verdict_values (verdict_of (ending_of o))).length (over (witness_of o) [])
-witness_length (stopped found tried witness) = sym (take-append_seam witness (drop (length witness) []))
-witness_length (exhausted found tried) = refl
+use Rattle.report.proofs.Legible.{witness_length, legible}
 
 no_witness : (o : Outcome) → (verdict_values (verdict_of (ending_of o))).leaks ≡ false → (verdict_values (verdict_of (ending_of o))).length ≡ 0
 no_witness (stopped found tried witness) h = absurd (false≢true (sym h))
 no_witness (exhausted found tried) h = refl
 
-module _ (m : SchemeModel) (bounds : Bounds (walk_of m)) (q : Query) where
+module _ (m : SchemeModel) (bounds : Bounds (walk_of m)) (q : Query) (asked : within_counts (scheme_system m) (permission_asked q) ≡ true) where
   abbrev system : System
   system = scheme_system m
 
@@ -48,6 +43,7 @@ module _ (m : SchemeModel) (bounds : Bounds (walk_of m)) (q : Query) where
     found = over (found_of outcome) [];
     witness = over (witness_of outcome) [];
     printed = ap (λ (moves : List ℕ). verdict_line m q said ++ flat_map (by_line m) moves) (witness_length outcome);
+    legible = legible m q asked bounds (at_label system p);
     moves_under_leak = no_witness outcome;
     safe = promised system bounds p (ending_of outcome) _ _ (means_of system.walk bounds (at_label system p) (ending_of outcome) [] _ [] _ refl refl refl);
   }
@@ -62,5 +58,5 @@ module _ (m : SchemeModel) (bounds : Bounds (walk_of m)) (q : Query) where
   answered_as true e = inl (grind (arith, leb-true), told)
   answered_as false e = inr (grind (arith, leb-false), refl)
 
-  pub answer_kept : within_counts system p ≡ true → Promised m q (answer_lines m system q)
-  answer_kept w = subst (λ (b : Bool). Promised m q (outcome_lines m q (answered b enough) (witness_of outcome))) (sym w) (answered_as enough refl)
+  pub answer_kept : Promised m q (answer_lines m system q)
+  answer_kept = subst (λ (b : Bool). Promised m q (outcome_lines m q (answered b enough) (witness_of outcome))) (sym asked) (answered_as enough refl)

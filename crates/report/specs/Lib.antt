@@ -2,4 +2,5 @@ pub mod Names
 pub mod Moves
 pub mod Answers
 pub mod Reports
+pub mod Readings
 pub mod Promises

@@ -1,6 +1,5 @@
 -- What the lines about a query promise: of all histories of monitors over the system that the scheme is.
-use Rattle.std.specs.Prelude.{◌≡◌, ℕ, ◌<◌, ◌≤◌, false, ◌⊎◌, List, ◌++◌, take, Ok, Some, slice_get}
-use Rattle.std.specs.List.{flat_map}
+use Rattle.std.specs.Prelude.{◌≡◌, ℕ, ◌<◌, ◌≤◌, false, ◌⊎◌, List, take, Ok, Some, slice_get}
 use Rattle.scheme.specs.declared.entries.Query.{Query}
 use Rattle.scheme.specs.Models.{SchemeModel}
 use Rattle.scheme.specs.Counts.{state_count}
@@ -9,15 +8,17 @@ use Rattle.protection.specs.Answers.{Said}
 use Rattle.protection.specs.Safety.{Safety}
 use Rattle.record.specs.Systems.{scheme_system, permission_asked}
 use Rattle.text.specs.Reading.{reading}
-use Rattle.report.specs.Moves.{by_line}
-use Rattle.report.specs.Answers.{refused_line, verdict_line, answer_lines}
+use Rattle.report.specs.Answers.{refused_line, answer_lines}
+use Rattle.report.specs.Readings.{verdict, lines_of, Legible}
 
--- the lines tell a verdict and, under leak, the moves of its witness, and the safety promise holds of both
+-- the lines tell a verdict and, under leak, the moves of its witness, and the safety promise holds of both; they are legible,
+-- and so can be read as nothing else (Readings)
 pub record Told (m : SchemeModel) (q : Query) (lines : List ℕ) : Type 0 where
   pub said : Said
   pub found : List Found
   pub witness : List ℕ
-  pub printed : lines ≡ verdict_line m q said ++ flat_map (by_line m) (take said.length witness)
+  pub printed : lines ≡ lines_of m (verdict q said (take said.length witness))
+  pub legible : Legible m q said (take said.length witness)
   pub moves_under_leak : said.leaks ≡ false → said.length ≡ 0
   pub safe : Safety (scheme_system m) (permission_asked q) said found witness
 

@@ -1,7 +1,11 @@
 // All that is printed of a text.
+ghost use Rattle.std.specs.Prelude.{◌≡◌, Ok};
+ghost use Rattle.scheme.specs.Models.{SchemeModel};
+ghost use Rattle.text.specs.Reading.{reading};
 ghost use Rattle.render.specs.Appended.{Appended};
 ghost use Rattle.report.specs.Reports.{annex_output};
 ghost use Rattle.report.specs.Promises.{PromisesKept};
+ghost use Rattle.report.specs.Readings.{ReadOneWay};
 
 use crate::refusal::put_refusal;
 use crate::whole::put_report;
@@ -11,10 +15,11 @@ use text::read::read;
 
 // Appends the report of a text, or its refusal. Want of memory is the only other answer, and it can
 // come only where the bytes had no room. `promises`: what is printed for a query is kept by every history of
-// the monitors of the text's scheme.
+// the monitors of the text's scheme. `read_one_way`: no other verdict and no other moves can be read out of it.
 pub fn annex(out: &mut Vec<u8>, text: &[u8]) -> Result<(), AllocError>
     ensures report { Appended result out.old out.new (annex_output text.now) }
     ensures promises { PromisesKept text.now }
+    ensures read_one_way { (m : SchemeModel) → reading text.now ≡ Ok m → ReadOneWay m }
 {
     let mut scheme = Scheme::bare();
     match read(&mut scheme, text) {

@@ -1,5 +1,4 @@
 mod Search
 pub mod Lists
 mod Last
-pub mod Sizes
 mod Fits

@@ -1,4 +1,4 @@
--- What a scheme declares, as plain lists: the model of the scheme record.
+-- What a scheme declares, as plain lists: the model of its draft.
 use Rattle.std.specs.Prelude.{ℕ, Bool, false, List, [], ◌∷◌, ◌++◌, map, length, Option, nat_lt}
 use Rattle.bounded.specs.Items.{items}
 use Rattle.scheme.specs.declared.kind.Kind.{Kind}
@@ -38,7 +38,7 @@ pub record SchemeModel : Type 0 where
 abbrev pub bare_model : SchemeModel
 bare_model = record { attributes = []; rights = []; objects = []; policies = []; queries = [] }
 
--- what the entries of the record stand for
+-- what the entries of a draft stand for
 
 abbrev pub attribute_of : Attribute → AttributeModel
 attribute_of a = record { name = items a.name; size = a.size }

@@ -1,4 +1,4 @@
--- Attributes by their sizes alone, and how many combinations of values they have.
+-- Attributes by their sizes alone, and how many states of one object there are.
 use Rattle.std.specs.Prelude.{ℕ, ◌+◌, ◌*◌, List, [], ◌∷◌, map}
 use Rattle.scheme.specs.Models.{AttributeModel, SchemeModel}
 

@@ -1,7 +1,9 @@
 pub mod Refusals
 pub mod Tables
 pub mod TableNumbers
+pub mod TableRefusing
 pub mod TableLaws
 pub mod Locks
 pub mod LockLists
 pub mod LockLaws
+pub mod LockPromise

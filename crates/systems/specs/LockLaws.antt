@@ -7,7 +7,7 @@ use Rattle.protection.specs.Systems.{Labels}
 use Rattle.systems.specs.Locks.{is_locked, locked_step, locked_walk}
 
 -- a step that is left is a step of the walk
-unlocked_step : (locks : List Permission) (walk : Walk) (labels : Labels) (s m t : ℕ) → locked_step locks walk labels s m ≡ Some t → walk.step s m ≡ Some t
+pub unlocked_step : (locks : List Permission) (walk : Walk) (labels : Labels) (s m t : ℕ) → locked_step locks walk labels s m ≡ Some t → walk.step s m ≡ Some t
 unlocked_step locks walk labels s m t e = go (is_locked locks (labels.label m)) e
   where
     go : (b : Bool) → cond b None (walk.step s m) ≡ Some t → walk.step s m ≡ Some t

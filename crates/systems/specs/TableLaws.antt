@@ -1,9 +1,9 @@
 -- What accepted numbers of a table are: its walk is within the bounds, and its labels within the counts. Here and not in proofs/, since the implementation cites it.
-use Rattle.std.specs.Prelude.{◌≡◌, ℕ, zero, suc, ◌+◌, ◌*◌, ◌<◌, ◌≤◌, Bool, true, false, cond, not, ◌&&◌, length, is_some, Some, None, Option, nat_le, nat_lt, slice_index, refl}
+use Rattle.std.specs.Prelude.{◌≡◌, ℕ, zero, suc, ◌+◌, ◌*◌, ◌<◌, Bool, true, false, cond, not, ◌&&◌, length, is_some, Some, None, Option, nat_le, nat_lt, slice_index, refl}
 use Rattle.std.proofs.Common.{arith}
 use Rattle.std.specs.Option.{option_map, option_or}
 use Rattle.std.proofs.lemmas.Bool.{ltb-true, ltb-false, leb-true, leb-false, eqb-true, and_parts, not-false}
-use Rattle.std.proofs.lemmas.Nat.{mul-add-lt, mul-le}
+use Rattle.std.proofs.lemmas.Nat.{mul-add-lt}
 use Rattle.walk.specs.Walks.{Bounds}
 use Rattle.protection.specs.declared.permission.Permission.{Permission}
 use Rattle.protection.specs.Systems.{Counts}
@@ -11,7 +11,8 @@ use Rattle.protection.specs.Lowest.{lowest}
 use Rattle.protection.specs.Refusals.{refused}
 use Rattle.protection.proofs.LowestLaws.{lowest_none}
 use Rattle.systems.specs.Refusals.{refused_at}
-use Rattle.systems.specs.Tables.{Table, bare, accepts, refusal, counts_out, lengths_out, label_out, entry_out, permission_at, table_walk, table_labels, table_step, table_label, next_of}
+use Rattle.systems.specs.TableRefusing.{CountBounds, LengthsMatch}
+use Rattle.systems.specs.Tables.{Table, accepts, refusal, counts_out, lengths_out, label_out, entry_out, permission_at, table_walk, table_labels, table_step, table_label, next_of}
 
 -- each test of the refusals fails
 pub record Accepted (t : Table) : Type 0 where
@@ -38,13 +39,6 @@ accepted_parts t ok =
     record { counts = p.0; lengths = p.1; starts = p.2; labelled = p.3; entered = p.4 }
 
 -- the bounds of the counts
-pub record CountBounds (n m o r : ℕ) : Type 0 where
-  pub nonempty : 1 ≤ n
-  pub most_states : n ≤ 1048576
-  pub most_moves : m ≤ 4096
-  pub most_objects : o ≤ 255
-  pub most_rights : r ≤ 255
-
 pub count_bounds : (n m o r : ℕ) → counts_out n m o r ≡ false → CountBounds n m o r
 count_bounds n m o r ok =
     let a = and_parts _ _ (not-false _ ok) in
@@ -59,10 +53,6 @@ count_bounds n m o r ok =
       most_rights = leb-true _ _ a.1;
     }
 
-pub record LengthsMatch (n m ls es : ℕ) : Type 0 where
-  pub labels_match : ls ≡ 3 * m
-  pub entries_match : es ≡ n * m
-
 pub lengths_match : (n m ls es : ℕ) → lengths_out n m ls es ≡ false → LengthsMatch n m ls es
 lengths_match n m ls es ok =
     let a = and_parts _ _ (not-false _ ok) in
@@ -74,13 +64,6 @@ place_in t ok s m hs hm =
     let a = accepted_parts t ok in
     let l = lengths_match t.states t.moves (length t.labels) (length t.entries) a.lengths in
     omega (arith, mul-add-lt s t.moves m t.states hs hm, l.entries_match)
-
-pub place_fits : (t : Table) → accepts t ≡ true → length t.entries ≤ 1048576 * 4096
-place_fits t ok =
-    let a = accepted_parts t ok in
-    let l = lengths_match t.states t.moves (length t.labels) (length t.entries) a.lengths in
-    let b = count_bounds t.states t.moves t.objects t.rights a.counts in
-    omega (arith, mul-le t.states t.moves 1048576 4096 b.most_states b.most_moves, l.entries_match)
 
 -- the tests of a step
 step_tests : (t : Table) (s m u : ℕ) → table_step t s m ≡ Some u
@@ -134,18 +117,3 @@ table_counts t ok =
           let h = label_tests t m p e in
           rw (← h.1) (not-false _ (lowest_none _ _ _ a.labelled h.0));
     }
-
-pub bare_accepted : accepts bare ≡ true
-unfolding refusal
-bare_accepted = refl
-
-pub labels_long : (t : Table) → accepts t ≡ true → (m : ℕ) → m < t.moves → 3 * m + 2 < length t.labels
-labels_long t ok m hm =
-    let l = lengths_match t.states t.moves (length t.labels) (length t.entries) (accepted_parts t ok).lengths in
-    omega arith
-
-pub entries_few : (n m o r ls es : ℕ) → counts_out n m o r ≡ false → lengths_out n m ls es ≡ false → es ≤ 1048576 * 4096
-entries_few n m o r ls es counts lengths =
-    let l = lengths_match n m ls es lengths in
-    let b = count_bounds n m o r counts in
-    omega (arith, mul-le n m 1048576 4096 b.most_states b.most_moves)

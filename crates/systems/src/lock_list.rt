@@ -1,10 +1,11 @@
 // The lock list as a protection system, and the call that adds to it.
-ghost use Rattle.std.specs.Prelude.{◌≡◌, []};
+ghost use Rattle.std.specs.Prelude.{◌≡◌, true, [], is_ok};
 ghost use Rattle.protection.specs.Refusals.{numbered};
 ghost use Rattle.systems.specs.Refusals.{lock_refusal_values};
 ghost use Rattle.systems.specs.Locks.{is_listed, is_locked, locked_walk, lock_answer, locks_after};
 ghost use Rattle.systems.specs.LockLists.{locks_of};
 ghost use Rattle.systems.specs.LockLaws.{locked_bounds};
+ghost use Rattle.systems.specs.LockPromise.{LocksHold};
 
 use super::lock::LockList;
 use super::refusals::LockRefusal;
@@ -36,8 +37,8 @@ impl<S: System> LockList<S> {
         self.locks.as_slice()
     }
 
-    // Locks a permission, unless it is locked already, and answers how many are.
-    pub fn lock(&mut self, p: Permission) -> Result<u32, LockRefusal>
+    // Lists a permission, unless it is listed already.
+    fn list(&mut self, p: Permission) -> Result<u32, LockRefusal>
         ensures answer { numbered lock_refusal_values result ≡ lock_answer (S.System.labels self.old.system) (locks_of self.old) p }
         ensures after { locks_of self.new ≡ locks_after (S.System.labels self.old.system) (locks_of self.old) p }
         ensures system { self.new.system ≡ self.old.system }
@@ -50,6 +51,19 @@ impl<S: System> LockList<S> {
         }
         self.locks.push(p)?;
         Ok(self.listed().len() as u32)
+    }
+
+    // Locks a permission, unless it is locked already, and answers how many are. `promise`: no history of a
+    // monitor over the list contains a grant of what is locked, or a yes to it; locks open nothing; and moves
+    // whose label is not locked keep their steps.
+    pub fn lock(&mut self, p: Permission) -> Result<u32, LockRefusal>
+        ensures answer { numbered lock_refusal_values result ≡ lock_answer (S.System.labels self.old.system) (locks_of self.old) p }
+        ensures after { locks_of self.new ≡ locks_after (S.System.labels self.old.system) (locks_of self.old) p }
+        ensures system { self.new.system ≡ self.old.system }
+        ensures listed { is_ok result ≡ true → is_listed (locks_of self.new) p ≡ true }
+        ensures promise { LocksHold (S.Walk.model self.new.system) (S.System.labels self.new.system) (locks_of self.new) }
+    {
+        self.list(p)
     }
 }
 

@@ -4,6 +4,7 @@ ghost use Rattle.protection.specs.Refusals.{numbered};
 ghost use Rattle.systems.specs.Refusals.{table_refusal_values};
 ghost use Rattle.systems.specs.Tables.{bare, next_of, table_walk, table_labels, fill_answer, filled};
 ghost use Rattle.systems.specs.TableNumbers.{table_of};
+ghost use Rattle.systems.specs.TableRefusing.{Lawful};
 ghost use Rattle.systems.specs.TableLaws.{table_bounds, table_counts};
 
 use super::numbers::Numbers;
@@ -30,10 +31,12 @@ impl<'a> TableSystem<'a> {
         }
     }
 
-    // Takes the numbers in place of those it held, or refuses them and stays as it was.
+    // Takes the numbers in place of those it held, or refuses them and stays as it was. `lawful`: the answer is
+    // the one that the table of refusals gives, and the table gives no other.
     pub fn fill(&mut self, numbers: Numbers<'a>) -> Result<(), TableRefusal>
         ensures answer { numbered table_refusal_values result ≡ fill_answer (table_of numbers.entry) }
         ensures after { table_of self.new.numbers ≡ filled (table_of self.old.numbers) (table_of numbers.entry) }
+        ensures lawful { Lawful (table_of numbers.entry) result }
     {
         numbers.check()?;
         self.numbers = numbers;

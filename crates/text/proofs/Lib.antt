@@ -6,6 +6,8 @@ mod Misnames
 pub mod Firsts
 pub mod Whole
 pub mod Sound
+pub mod Added
+pub mod Limits
 mod Made
 mod WritingCut
 mod WritingForms

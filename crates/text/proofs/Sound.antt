@@ -14,7 +14,6 @@ use Rattle.scheme.specs.declared.entries.Query.{Query}
 use Rattle.scheme.specs.Models.{AttributeModel, ObjectModel, PolicyModel, SchemeModel, names_of, filled, last_filled}
 use Rattle.scheme.specs.Counts.{state_count}
 use Rattle.scheme.specs.Sizes.{sizes_of, size_states}
-use Rattle.scheme.proofs.Sizes.{state_count_sizes}
 use Rattle.scheme.specs.WellFormed.{value_fits, values_fit, objects_fit, rights_fit, well_formed}
 use Rattle.protection.specs.declared.permission.Permission.{Permission}
 use Rattle.protection.specs.Permissions.{within}
@@ -116,7 +115,7 @@ index_at : (i n : ℕ) (rest : Option ℕ) (b : Bool) → (is_some rest ≡ true
 index_at i n rest true later h = omega arith
 index_at i n rest false later h = let low = later h in omega arith
 
-index_below : (i : ℕ) (n : List ℕ) (ns : List (List ℕ)) → is_some (index_from i n ns) ≡ true → unwrap_or (index_from i n ns) 0 < i + length ns
+pub index_below : (i : ℕ) (n : List ℕ) (ns : List (List ℕ)) → is_some (index_from i n ns) ≡ true → unwrap_or (index_from i n ns) 0 < i + length ns
 index_below i n [] h = absurd (false≢true h)
 index_below i n (m ∷ ns) h = index_at i (length ns) (index_from (i + 1) n ns) (bytes_eq m n) (index_below (i + 1) n ns) h
 
@@ -138,7 +137,7 @@ line_values_fit ws i (a ∷ al) h =
 
 -- a line without a fault
 
-opens_first : (ws : List PlainWord) (k : Kind) → first_kind ws ≡ Some k → (0 < length ws) × (kind_in (word_in ws 0).bytes ≡ Some k)
+pub opens_first : (ws : List PlainWord) (k : Kind) → first_kind ws ≡ Some k → (0 < length ws) × (kind_in (word_in ws 0).bytes ≡ Some k)
 opens_first [] k is = let z : ◌≡◌ {A = ℕ} 0 1 = cc in absurd (omega arith)
 opens_first (w ∷ ws) k is = (omega arith, is)
 
@@ -156,7 +155,7 @@ module _ (p : Progress) (l : PlainLine) (faultless : Faultless p l) where
       (λ (not_in : in_order p.last k ≡ false). absurd (faultless kinds 0 (OfLine (line.Kind (spot_of (word_at l 0)))) (refl, opened.0, inr (k, (opened.1, not_in)), refl)))
       (cases_Bool (in_order p.last k))
 
-  counted : (k : Kind) → Opens l k → count_allowed k (length m.attributes) (length ws) ≡ true
+  pub counted : (k : Kind) → Opens l k → count_allowed k (length m.attributes) (length ws) ≡ true
   counted k opened =
       ⊎_elim
       (λ (is : count_allowed k (length m.attributes) (length ws) ≡ true). is)
@@ -244,7 +243,7 @@ start_sound = record { formed = refl; asked = refl; early = λ h. refl }
 pub line_sound : (p : Progress) (l : PlainLine) (q : Progress) → read_line p l ≡ Ok q → Sound p → Sound q
 line_sound p l q h s = let told = line_faultless p l q h in subst Sound (sym told.1) (below_sound p l told.0 s (first_kind (words_of l)) refl)
 
-passed_sound : (p : Progress) (ls : List PlainLine) (q : Progress) → Passed p ls q → Sound p → Sound q
+pub passed_sound : (p : Progress) (ls : List PlainLine) (q : Progress) → Passed p ls q → Sound p → Sound q
 passed_sound p [] q e s = subst Sound e s
 passed_sound p (l ∷ ls) q (faultless, e) s = passed_sound (below_line p l) ls q e (below_sound p l faultless s (first_kind (words_of l)) refl)
 
@@ -261,7 +260,7 @@ module _ (m : SchemeModel) (formed : well_formed m ≡ true) (whole : complete m
       let parts = and_parts (leb 1 (length m.attributes)) _ whole in
       let some = leb-true 1 (length m.objects) (and_parts (leb 1 (length m.rights)) (leb 1 (length m.objects)) parts.1).1 in
       let more = power_above (size_states (sizes_of m)) (length m.objects) (omega arith) some in
-      omega (arith, state_count_sizes m)
+      omega arith
 
   pub accepted_few : accepted m ≡ few_states m
   accepted_few = ap (λ b. b && (leb (size_states (sizes_of m)) 1048576 && few_states m)) formed ∙ few (few_states m) refl

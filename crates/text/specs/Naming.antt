@@ -24,11 +24,11 @@ size_at m i = slice_index (map (λ (a : AttributeModel). a.size) m.attributes) i
 abbrev pub new_check : SchemeModel → Kind → PlainWord → Result (Unit {0}) SchemeFault
 new_check m k w = cond (is_some (index_of w.bytes (names_of k m))) (Err (Used (spot_of w))) (Ok tt)
 
--- the name of an entry is defined
+-- the name of an entry is declared above
 abbrev pub known_check : SchemeModel → Kind → PlainWord → Result (Unit {0}) SchemeFault
 known_check m k w = cond (is_some (index_of w.bytes (names_of k m))) (Ok tt) (Err (Undefined (spot_of w)))
 
--- a term names an attribute that is defined
+-- a term names an attribute that is declared above
 abbrev pub term_form_check : SchemeModel → PlainWord → Form → Result (Unit {0}) SchemeFault
 term_form_check m w (name b) = Ok tt
 term_form_check m w (number n) = Ok tt

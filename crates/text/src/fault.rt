@@ -10,7 +10,7 @@ pub enum SchemeFault {
     OfLine(LineFault),
     // A name already used in its kind.
     Used(Spot),
-    // A name that is not defined.
+    // A name that is not declared above.
     Undefined(Spot),
     // A size not from 1 to 250, or a value not below its attribute's size.
     Range(Spot),

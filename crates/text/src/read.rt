@@ -44,12 +44,14 @@ fn read_text(scheme: &mut Scheme, text: &[u8]) -> Result<(), SchemeFault>
 // scheme is lent, and none is answered: a rule of the project (docs/TEXT.md).
 // `lawful`: the answer is the one that the table of refusals gives, and the table gives no other. `accepted`:
 // every scheme that the table accepts is one of the records, which takes well-formed schemes alone.
-// `every_scheme_is_written`: the format writes each scheme within its limits, by a text that reads back to it.
+// `writable`: every scheme that is read is within the limits of the format. `every_scheme_is_written`: each scheme within
+// them is written, by a text that reads back to it. So the schemes that texts declare are just those within the limits.
 pub fn read(scheme: &mut Scheme, text: &[u8]) -> Result<(), SchemeFault>
     ensures result { after result (scheme_of scheme.new) ≡ reading text.now }
     ensures kept { is_err result ≡ true → scheme.new ≡ scheme.old }
     ensures lawful { Lawful text.now (after result (scheme_of scheme.new)) }
     ensures accepted { (m : SchemeModel) → reading text.now ≡ Ok m → accepted m ≡ true }
+    ensures writable { (m : SchemeModel) → reading text.now ≡ Ok m → Writable m }
     ensures every_scheme_is_written { (m : SchemeModel) → Writable m → reading (written m) ≡ Ok m }
 {
     read_text(scheme, text)

@@ -1,4 +1,13 @@
 // Walks, and the breadth-first search over any walk for an enabled move that meets a goal.
+//
+// interface  what a walk is, and what a goal
+// records    an entry of the found list, and how a search ends
+// listing    the states listed so far, in the tables that the caller lends
+// tries      the listed states in turn, and each move in each of them
+// trace      the witness, back along the parents
+// lent       a walk that is lent is a walk
+//
+// What a search says of the walk's runs is the clause `means` of `search`.
 #![tactic(auto)]
 
 ghost use Rattle.std.specs.Prelude.{◌≡◌, length};

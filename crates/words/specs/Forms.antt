@@ -38,7 +38,7 @@ term_in [] = None
 term_in (p ∷ []) = None
 term_in (p ∷ q ∷ w) = cond (q == 46 && is_name w) (cond (p == 115) (Some (Subject, w)) (cond (p == 111) (Some (Object, w)) None)) None
 
--- `=`, `<`, `>`, `-`, `!=`, `<=`, `>=`
+-- a comparison: `=`, `!=`, `<`, `<=`, `>` or `>=`; or `-`, a form of its own in the format
 abbrev pub operator_in : List ℕ → Option Operator
 operator_in [] = None
 operator_in (a ∷ []) = cond (a == 61) (Some (Compare Equal)) (cond (a == 60) (Some (Compare Less)) (cond (a == 62) (Some (Compare Greater)) (cond (a == 45) (Some Dash) None)))

@@ -14,6 +14,14 @@ abbrev pub meter_report : List ℕ
 meter_report =
     codes "scheme 169 8\nleak ann m1 load 2 14\nby drive ann m1\nby refill ann m1\nnever m1 ann load 3 24\n"
 
+-- 4,489 states: too many for the tables of `annex`
+abbrev pub unanswered : List ℕ
+unanswered = codes "attr role 2\nattr left 21\nright drive\nobject ann 0 -\nobject m1 - 20\nquery ann m1 drive\n"
+
+-- what `annex` prints of it
+abbrev pub unanswered_report : List ℕ
+unanswered_report = codes "scheme 4489 0\nrefused 31 0 0\n"
+
 -- two objects, with as many states as a scheme may have, and with more
 abbrev pub most : List ℕ
 most = codes "attr a 2\nattr b 10\nattr c 30\nright r\nobject x - - -\nobject y - - -\n"

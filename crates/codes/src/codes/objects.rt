@@ -4,7 +4,7 @@ ghost use Rattle.std.specs.Option.{option_map};
 ghost use Rattle.bounded.specs.Items.{items};
 ghost use Rattle.scheme.specs.Sizes.{size_states};
 ghost use Rattle.codes.specs.Objects.{object_fits};
-ghost use Rattle.codes.specs.Codes.{values_from, object_from, code};
+ghost use Rattle.codes.specs.Codes.{values_from, object_from, code, Corresponds};
 ghost use Rattle.codes.specs.Weights.{summed};
 ghost use Rattle.codes.specs.Meanings.{object_of, sizes_in};
 
@@ -22,9 +22,12 @@ impl Codes {
         Bounded::collect(None, digits.map(|digit| value_of(digit.part_in(sum)))).unwrap()
     }
 
-    // The object that a code stands for; none where the number is no code.
+    // The object that a code stands for; none where the number is no code. `one_to_one`: objects and the
+    // numbers below the count of codes correspond.
+    #[tactic(auto, using(crate::proofs::Digits::corresponds))]
     pub fn object(&self, code: u32) -> Option<ObjectState>
-        ensures { option_map object_of result ≡ (if nat_lt code (size_states (sizes_in self.now)) then Some (object_from (sizes_in self.now) code) else None) }
+        ensures value { option_map object_of result ≡ (if nat_lt code (size_states (sizes_in self.now)) then Some (object_from (sizes_in self.now) code) else None) }
+        ensures one_to_one { Corresponds (sizes_in self.now) }
     {
         if code >= self.radix() {
             return None;
@@ -55,9 +58,11 @@ impl Codes {
         Some(sum)
     }
 
-    // The code of an object; none where it has not a value or null for each attribute.
+    // The code of an object; none where it has not a value or null for each attribute. `one_to_one`: as above.
+    #[tactic(auto, using(crate::proofs::Digits::corresponds))]
     pub fn code(&self, object: &ObjectState) -> Option<u32>
-        ensures { result ≡ (if object_fits (sizes_in self.now) (object_of object.now) then Some (code (sizes_in self.now) (object_of object.now)) else None) }
+        ensures value { result ≡ (if object_fits (sizes_in self.now) (object_of object.now) then Some (code (sizes_in self.now) (object_of object.now)) else None) }
+        ensures one_to_one { Corresponds (sizes_in self.now) }
     {
         match object {
             ObjectState::Absent => Some(ABSENT),

@@ -40,7 +40,7 @@ impl Codes {
     }
 
     // The value, or null, of an attribute in the code of an object that is there.
-    pub fn value(&self, code: u32, attribute: u8) -> Option<u8>
+    fn value(&self, code: u32, attribute: u8) -> Option<u8>
         ensures { result ≡ value_in (sizes_in self.now) code attribute }
     {
         value_of(self.part_in(code, attribute))

@@ -14,6 +14,7 @@ use crate::numbering::State;
 impl Scheme {
     // The number of a state; none where it is no state of this scheme. `one_to_one`: states and the
     // numbers below their count correspond.
+    #[tactic(auto, using(crate::proofs::Dimensions::dimensions, crate::proofs::Digits::corresponds))]
     pub fn encode(&self, state: &State) -> Option<u32>
         ensures value { result ≡ (if state_fits (sizes_of (scheme_of self.now)) (object_count (scheme_of self.now)) (state_of state.now) then Some (number (sizes_of (scheme_of self.now)) (state_of state.now)) else None) }
         ensures one_to_one { Corresponds (sizes_of (scheme_of self.now)) (object_count (scheme_of self.now)) }

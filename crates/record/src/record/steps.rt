@@ -87,11 +87,11 @@ impl Scheme {
         if state >= self.numbering.states() {
             return None;
         }
-        let entry = self.use_of(mv)?;
-        if entry.mv.subject == entry.mv.object {
+        let this_use = self.use_of(mv)?;
+        if this_use.mv.subject == this_use.mv.object {
             return None;
         }
-        entry.apply(state)
+        this_use.apply(state)
     }
 
     // The state that a move leads to; none where there is no such state or move, or the move's policy
@@ -107,11 +107,11 @@ impl Scheme {
     fn label_at(&self, mv: u32) -> Option<Permission>
         ensures { result ≡ label_of (scheme_of self.now) mv }
     {
-        let entry = self.use_of(mv)?;
+        let this_use = self.use_of(mv)?;
         Some(Permission {
-            subject: entry.mv.subject,
-            object: entry.mv.object,
-            right: entry.policy().right,
+            subject: this_use.mv.subject,
+            object: this_use.mv.object,
+            right: this_use.policy().right,
         })
     }
 

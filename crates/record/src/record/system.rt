@@ -12,6 +12,7 @@ impl Walk for Scheme {
 
     ghost bounds = { λ s. scheme_bounds s };
 
+    #[tactic(auto, using(crate::proofs::Dimensions::states_counted))]
     fn states(&self) -> u32 {
         self.numbering.states()
     }
@@ -20,6 +21,7 @@ impl Walk for Scheme {
         self.start
     }
 
+    #[tactic(auto, using(crate::specs::SystemLaws::moves_counted))]
     fn moves(&self) -> u32 {
         self.moves.as_slice().len() as u32
     }

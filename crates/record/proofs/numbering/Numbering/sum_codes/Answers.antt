@@ -20,7 +20,7 @@ returns-in_err-code c =
     let turn = zip_turn c.args.objects.now (items c.args.self.now.places) c.loop-object.yielded c.into_iter-object-iterator.result c.loop-object.object-iterator c.next.new.self c.next.result (search rules) (search rules) c.loop-object.yielded_by
     (c.in-Some.object, c.in-Some.place) c.in-Some.is c.next.ensures.steps in
     c.from_residual.ensures
-    ∙ sum_unfit object_of (dimensions_of c.args.self.now).sizes c.args.objects.now (length c.loop-object.yielded) c.loop-object.sum c.in-Some.object.now turn.0 (turn.2 _) c.in_err-code.ensures
+    ∙ sum_unfit object_of (dimensions_of c.args.self.now).sizes c.args.objects.now (length c.loop-object.yielded) c.loop-object.sum c.in-Some.object.now turn.0 (turn.2 _) c.in_err-code.ensures.value
     ∙ c.loop-object.invariant.left
 
 -- one object more
@@ -46,19 +46,19 @@ pub overflow_mul-sum : goal.overflow_mul-sum
 overflow_mul-sum c =
     let at = zip_turn c.args.objects.now (items c.args.self.now.places) c.loop-object.yielded c.into_iter-object-iterator.result c.loop-object.object-iterator c.next.new.self c.next.result (search rules) (search rules) c.loop-object.yielded_by
     (c.in-Some.object, c.in-Some.place) c.in-Some.is c.next.ensures.steps in
-    rw c.number.ensures (omega (arith, (turn c.args.self.now c.args.objects.now _ c.loop-object.sum _ _ _ at c.in_ok-code.ensures c.loop-object.invariant.below).small))
+    rw c.number.ensures (omega (arith, (turn c.args.self.now c.args.objects.now _ c.loop-object.sum _ _ _ at c.in_ok-code.ensures.value c.loop-object.invariant.below).small))
 
 pub overflow_add-sum : goal.overflow_add-sum
 overflow_add-sum c =
     let at = zip_turn c.args.objects.now (items c.args.self.now.places) c.loop-object.yielded c.into_iter-object-iterator.result c.loop-object.object-iterator c.next.new.self c.next.result (search rules) (search rules) c.loop-object.yielded_by
     (c.in-Some.object, c.in-Some.place) c.in-Some.is c.next.ensures.steps in
-    rw c.number.ensures (omega (arith, (turn c.args.self.now c.args.objects.now _ c.loop-object.sum _ _ _ at c.in_ok-code.ensures c.loop-object.invariant.below).small))
+    rw c.number.ensures (omega (arith, (turn c.args.self.now c.args.objects.now _ c.loop-object.sum _ _ _ at c.in_ok-code.ensures.value c.loop-object.invariant.below).small))
 
 pub loop-object-preserved : goal.loop-object-preserved
 loop-object-preserved c =
     let at = zip_turn c.args.objects.now (items c.args.self.now.places) c.loop-object.yielded c.into_iter-object-iterator.result c.loop-object.object-iterator c.next.new.self c.next.result (search rules) (search rules) c.loop-object.yielded_by
     (c.in-Some.object, c.in-Some.place) c.in-Some.is c.next.ensures.steps in
-    let t = turn c.args.self.now c.args.objects.now _ c.loop-object.sum _ _ _ at c.in_ok-code.ensures c.loop-object.invariant.below in
+    let t = turn c.args.self.now c.args.objects.now _ c.loop-object.sum _ _ _ at c.in_ok-code.ensures.value c.loop-object.invariant.below in
     rw c.number.ensures (simp length_push (record { left = t.left ∙ c.loop-object.invariant.left; below = t.below }))
 
 pub returns : goal.returns

@@ -1,6 +1,5 @@
-use Rattle.std.proofs.Common.{◌^◌, cond, ltb, Some, None, sym, ap, ◌∙◌}
+use Rattle.std.proofs.Common.{◌^◌, cond, ltb, Some, None, ap, ◌∙◌}
 use Rattle.scheme.specs.Sizes.{sizes_of, size_states}
-use Rattle.scheme.proofs.Sizes.{state_count_sizes}
 use Rattle.record.specs.States.{state_from}
 use Rattle.record.specs.Numberings.{Dimensions}
 use Rattle.record.specs.Systems.{object_count}
@@ -14,7 +13,6 @@ returns c =
     let m = scheme_of c.args.self.now in
     let x = c.args.number in
     record {
-      value = c.state.ensures ∙ ap (λ (d : Dimensions). cond (ltb x (size_states d.sizes ^ d.objects)) (Some (state_from d.sizes d.objects x)) None) (dimensions c.args.self.now)
-          ∙ ap (λ n. cond (ltb x n) (Some (state_from (sizes_of m) (object_count m) x)) None) (sym (state_count_sizes m));
+      value = c.state.ensures ∙ ap (λ (d : Dimensions). cond (ltb x (size_states d.sizes ^ d.objects)) (Some (state_from d.sizes d.objects x)) None) (dimensions c.args.self.now);
       one_to_one = corresponds (sizes_of m) (object_count m);
     }

@@ -20,15 +20,15 @@ returns-then-state-states c =
 
 pub apply-requires-clause-state : goal.apply-requires-clause-state
 apply-requires-clause-state c =
-    rw c.in_ok-entry.ensures.here (omega (arith, states_counted c.args.self.now))
+    rw c.in_ok-this_use.ensures.here (omega (arith, states_counted c.args.self.now))
 
 pub returns : goal.returns
 returns c =
     let m = scheme_of c.args.self.now in
     let x = c.args.state in
     let v = c.args.mv in
-    let is = some_cond (ltb v (move_count m)) (move_at (object_count m) v) c.in_ok-entry.entry.mv c.in_ok-entry.ensures.value in
+    let is = some_cond (ltb v (move_count m)) (move_at (object_count m) v) c.in_ok-this_use.this_use.mv c.in_ok-this_use.ensures.value in
     c.apply.ensures
-    ∙ ap (λ (s : Scheme). option_map (number (sizes_of (scheme_of s))) (state_after (scheme_of s) c.in_ok-entry.entry.mv (state_from (sizes_of (scheme_of s)) (object_count (scheme_of s)) x))) c.in_ok-entry.ensures.here
+    ∙ ap (λ (s : Scheme). option_map (number (sizes_of (scheme_of s))) (state_after (scheme_of s) c.in_ok-this_use.this_use.mv (state_from (sizes_of (scheme_of s)) (object_count (scheme_of s)) x))) c.in_ok-this_use.ensures.here
     ∙ ap (λ (e : Move). option_map (number (sizes_of m)) (state_after m e (state_from (sizes_of m) (object_count m) x))) is.1
     ∙ sym (cond-true _ _ _ (and_from _ _ (lt-ltb x (state_count m) (omega (arith, states_counted c.args.self.now))) is.0))

@@ -13,9 +13,9 @@ use Rattle.record.specs.Moves.{move_at}
 use Rattle.record.specs.Numberings.{Dimensions, dimensions_of, within_bounds, state_of}
 use Rattle.record.specs.Systems.{object_count, start_state}
 use Rattle.record.specs.Schemes.{scheme_of}
-use Rattle.record.proofs.Accepting.{none_cond, some_cond, bounds_of, built, start_is_state, start_number}
+use Rattle.record.proofs.Accepting.{none_cond, some_cond, built, start_is_state, start_number}
 use Rattle.record.proofs.Closing.{step_closed}
-use Rattle.record.proofs.Digits.{number_below, below_count}
+use Rattle.record.proofs.Digits.{number_below}
 use Rattle.record.proofs.record.Scheme.of.Goals as goal
 
 pub returns-in_err-numbering : goal.returns-in_err-numbering
@@ -25,8 +25,7 @@ returns-in_err-numbering c =
     let count : n ≡ object_count m = count_of object_of _ _ c.objects-objects.ensures.list in
     ap (option_map scheme_of) c.from_residual.ensures
     ∙ sym (cond-false _ _ _ (and_right _ _
-    (sym (bounds_of m)
-    ∙ ap (λ k. within_bounds (sizes_of m) k) (sym count)
+    (ap (λ k. within_bounds (sizes_of m) k) (sym count)
     ∙ ap (λ ks. within_bounds ks n) (sym c.sizes_in.ensures)
     ∙ none_cond _ _ c.in_err-numbering.ensures)))
 
@@ -36,8 +35,7 @@ returns c =
     let n = length c.objects-objects.result.now in
     let count : n ≡ object_count m = count_of object_of _ _ c.objects-objects.ensures.list in
     sym (cond-true _ _ _ (and_from _ _ (sym c.if-not-is_well_formed.ensures)
-    (sym (bounds_of m)
-    ∙ ap (λ k. within_bounds (sizes_of m) k) (sym count)
+    (ap (λ k. within_bounds (sizes_of m) k) (sym count)
     ∙ ap (λ ks. within_bounds ks n) (sym c.sizes_in.ensures)
     ∙ (some_cond _ _ _ c.in_ok-numbering.ensures).0)))
 
@@ -68,6 +66,6 @@ invariant_of-result c =
           c.moves_of-moves.ensures
           ∙ ap (λ k. map (move_at k) (range_with_len 0 (k * k * length c.policies-policies.result.now))) count
           ∙ ap (λ k. map (move_at (object_count m)) (range_with_len 0 (object_count m * object_count m * k))) policies;
-      begun = subst (λ k. k < state_count m) (sym start_is) (below_count m _ (number_below (sizes_of m) (object_count m) (start_state m) (start_is_state m formed)));
+      begun = subst (λ k. k < state_count m) (sym start_is) (number_below (sizes_of m) (object_count m) (start_state m) (start_is_state m formed));
       closed = step_closed m;
     }
