@@ -13,7 +13,8 @@ where OLD stands once in the file. A bug that changes nothing that a caller can 
     equivalent: OLD ==> NEW
 
 below a line `# REASON`. The file is put back after each check. A survivor is a bug with which the crate is still
-proved; of an equivalent one it is said whether it is proved, and it counts in neither sum.
+proved and, if it is a program, still prints its file stdout of its file stdin; of an equivalent one it is said
+whether it is so, and it counts in neither sum.
 """
 import os
 import subprocess
@@ -46,10 +47,17 @@ def first_error(text):
 
 
 def check(crate):
-    r = subprocess.run(["rt", "check"], cwd="crates/" + crate, capture_output=True, text=True)
+    """Whether the crate is proved and, if it is a program, prints what it must; and what was said."""
+    folder = "crates/" + crate
+    r = subprocess.run(["rt", "check"], cwd=folder, capture_output=True, text=True)
     text = r.stdout + r.stderr
     verdicts = [line for line in text.splitlines() if line.startswith("logic=")]
-    return bool(verdicts) and verdicts[-1].startswith("logic=proved"), text
+    proved = bool(verdicts) and verdicts[-1].startswith("logic=proved")
+    if proved and os.path.exists(folder + "/src/main.rt"):
+        r = subprocess.run(["rt", "try"], cwd=folder, capture_output=True, stdin=open(folder + "/stdin", "rb"))
+        if r.stdout != open(folder + "/stdout", "rb").read():
+            return False, "error: the program prints something else"
+    return proved, text
 
 
 def plant(crate, path, old, new):
