@@ -1,7 +1,6 @@
 // What a bounded list does, said of the list of its items.
-ghost use Rattle.std.specs.Prelude.{◌≡◌, ◌<◌, ◌≤◌, [], ◌∷◌, ◌++◌, length, if◌then◌else◌, is_ok, Some, None, MatchOption, MatchResult, nat_le, nat_lt, slice_get, slice_set};
+ghost use Rattle.std.specs.Prelude.{◌≡◌, ◌<◌, [], ◌∷◌, ◌++◌, length, if◌then◌else◌, is_ok, Some, None, MatchResult, nat_le, nat_lt};
 ghost use Rattle.std.specs.Option.{option_map};
-ghost use Rattle.std.specs.Fn.{FnOnceReturnsAtMut};
 ghost use Rattle.std.specs.Iterator.{IsFinite};
 ghost use Rattle.std.specs.Iterator.Runs.{SomeRun, WholeRun};
 ghost use Rattle.bounded.specs.Items.{items};
@@ -71,17 +70,5 @@ impl<T: Copy, const N: usize> Bounded<T, N> {
         self.array[self.len] = item;
         self.len += 1;
         Ok(())
-    }
-
-    // Lends the item at a place to a function that may change it, and answers what that answers;
-    // none where there is no such item.
-    pub fn lend<R, F: FnOnce(&mut T) -> R>(&mut self, at: usize, edit: F) -> Option<R>
-        requires { F.IsAlwaysCallable edit }
-        ensures { MatchOption result ((length (items self.old) ≤ at) × (items self.new ≡ items self.old)) (λ r. (x : T) × (y : T) × (slice_get (items self.old) at ≡ Some x) × FnOnceReturnsAtMut F.FnOnce edit x r y × (items self.new ≡ slice_set (items self.old) at y)) }
-    {
-        if at >= self.len {
-            return None;
-        }
-        Some(edit(&mut self.array[at]))
     }
 }

@@ -1,4 +1,6 @@
 // A scheme that is being read: what the lines so far declare.
+ghost use Rattle.scheme.specs.Tables.{Fits};
+
 use crate::entries::{Attribute, Object, Query};
 use crate::names::Name;
 use crate::policies::Policies;
@@ -11,6 +13,7 @@ pub struct Draft {
     objects: Bounded<Object, 8>,
     policies: Policies,
     queries: Bounded<Query, 16>,
+    ghost fits: { Fits policies },
 }
 
 mod checks;

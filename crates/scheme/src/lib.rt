@@ -5,7 +5,7 @@
 // names        names, and the search for one among the entries of a kind
 // entries      attributes, objects, policies, queries
 // declaration  what one line declares
-// policies     the table of policies, and what fills one of them
+// policies     the table of policies, and the clauses that are filled into one of them
 // draft        a scheme that is being read, line by line
 #![tactic(auto)]
 

@@ -1,13 +1,12 @@
 // One declaration more in a draft.
 ghost use Rattle.std.specs.Prelude.{◌≡◌, if◌then◌else◌, is_ok};
-ghost use Rattle.scheme.specs.Models.{with_policies, has_room, last_room, last_filled, room_for};
+ghost use Rattle.scheme.specs.Models.{room_for};
 ghost use Rattle.scheme.specs.Declarations.{kind_of, with_declaration};
 ghost use Rattle.scheme.specs.Drafts.{draft_of};
 
 use super::Draft;
 use crate::declaration::Declaration;
 use crate::entries::Policy;
-use crate::terms::Clause;
 use bounded::Full;
 
 impl Draft {
@@ -23,19 +22,8 @@ impl Draft {
             Declaration::Policy { name, right } => {
                 self.policies.push(Policy::without_clauses(name, right))
             }
-            Declaration::Clause(clause) => self.fill_last(clause),
+            Declaration::Clause(clause) => self.policies.fill_last(clause),
             Declaration::Query(query) => self.queries.push(query),
         }
-    }
-
-    // The table lends the policy declared last to `fill`; refused where there is none.
-    fn fill_last(&mut self, clause: Clause) -> Result<(), Full>
-        ensures room { is_ok result ≡ last_room (has_room clause) (draft_of self.old).policies }
-        ensures after { draft_of self.new ≡ (if is_ok result then with_policies (last_filled clause (draft_of self.old).policies) (draft_of self.old) else draft_of self.old) }
-    {
-        let last = self.policies.as_slice().len().checked_sub(1).ok_or(Full)?;
-        self.policies
-            .lend(last, |policy| policy.fill(clause))
-            .ok_or(Full)?
     }
 }

@@ -9,6 +9,7 @@ use super::Draft;
 use crate::entries::{Attribute, Object, Policy, Query};
 use crate::kind::Kind;
 use crate::names::{Name, find};
+use crate::policies::Policies;
 use bounded::Bounded;
 
 impl Draft {
@@ -24,7 +25,7 @@ impl Draft {
                 name,
                 values: Bounded::new(None),
             }),
-            policies: Bounded::new(Policy::without_clauses(name, 0)),
+            policies: Policies::new(),
             queries: Bounded::new(Query {
                 subject: 0,
                 object: 0,
