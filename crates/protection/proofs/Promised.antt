@@ -117,7 +117,9 @@ module _ (system : System) (bounds : Bounds system.walk) (q : Permission) where
     leak_is_shortest = λ yes'. absurd (both_ways false refl yes');
     never_is_listed = λ _. m.fits;
     never_lists_left = λ _. record {
-      left = λ i h. (let r = m.lists.reached i h in (map enforce r.0, enforce_leaves system bounds r.0 system.walk.start (state_at found i) r.1));
+      left = λ i h.
+          let r = m.lists.reached i h in
+          (r.0, enforce_grants system bounds r.0 system.walk.start (state_at found i) r.1, enforce_leaves system bounds r.0 system.walk.start (state_at found i) r.1);
       all = λ calls. m.lists.all (history_run system calls).moves (history_leaves system calls) (history_run system calls).leads;
       once = m.lists.once;
     };

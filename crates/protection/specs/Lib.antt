@@ -4,6 +4,7 @@ pub mod Meaning
 pub mod Refusals
 pub mod Answers
 pub mod Analysis
+pub mod Verdicts
 pub mod Lowest
 pub mod Histories
 pub mod Safety

@@ -14,9 +14,11 @@ pub record Replays (system : System) (q : Permission) (moves : List ℕ) : Type 
   pub granted_each : history_grants system (map enforce moves) ≡ moves
   pub last_grants : EndsInGrant system q (map enforce moves)
 
--- the first `count` listed states are exactly those in which histories leave their monitors, each once
+-- the first `count` listed states are exactly those in which histories leave their monitors, each once; each
+-- is left by calls of `enforce` alone, all of them granted
 pub record ListsLeft (system : System) (count : ℕ) (found : List Found) : Type 0 where
-  pub left : (i : ℕ) → i < count → (calls : List Call) × (history_leaves system calls ≡ state_at found i)
+  pub left : (i : ℕ) → i < count
+      → (moves : List ℕ) × (history_grants system (map enforce moves) ≡ moves) × (history_leaves system (map enforce moves) ≡ state_at found i)
   pub all : (calls : List Call) → (i : ℕ) × (i < count) × (state_at found i ≡ history_leaves system calls)
   pub once : (i j : ℕ) → i < count → j < count → state_at found i ≡ state_at found j → i ≡ j
 

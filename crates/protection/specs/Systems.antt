@@ -1,5 +1,5 @@
 -- A protection system: a walk with a label for each move.
-use Rattle.std.specs.Prelude.{◌≡◌, ℕ, ◌≤◌, Bool, true, Some, Option}
+use Rattle.std.specs.Prelude.{◌≡◌, ℕ, ◌<◌, ◌≤◌, Bool, true, Some, Option}
 use Rattle.protection.specs.declared.permission.Permission.{Permission}
 use Rattle.protection.specs.Permissions.{has_label, within}
 use Rattle.walk.specs.Walks.{Walk}
@@ -31,3 +31,9 @@ labelled system m q = has_label (system.label m) q
 
 abbrev pub within_counts : System → Permission → Bool
 within_counts system p = within system.objects system.rights p
+
+-- the same as a fact, number by number
+pub record WithinCounts (system : System) (p : Permission) : Type 0 where
+  pub subject_below : p.subject < system.objects
+  pub object_below : p.object < system.objects
+  pub right_below : p.right < system.rights

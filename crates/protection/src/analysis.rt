@@ -6,6 +6,8 @@ ghost use Rattle.protection.specs.Meaning.{meaning};
 ghost use Rattle.protection.specs.Answers.{told};
 ghost use Rattle.protection.specs.Analysis.{analysis_answer, marks_left, found_left, witness_left};
 ghost use Rattle.protection.specs.Safety.{Promise};
+ghost use Rattle.protection.specs.Verdicts.{Refuses, VisitsFor};
+ghost use Rattle.walk.specs.Written.{tables};
 
 use super::answers::{Refusal, Verdict};
 use super::interface::System;
@@ -47,6 +49,10 @@ pub fn analyse<S: System>(
     ensures found { found.new ≡ found_left (meaning S.Walk S.System.own system.now) q result found.old }
     ensures witness { witness.new ≡ witness_left (meaning S.Walk S.System.own system.now) q result witness.old }
     ensures safety { Promise (meaning S.Walk S.System.own system.now) q result found.new witness.new }
+    ensures refused { Refuses (S.Walk.model system.now) (S.System.labels system.now) q (told result)
+        (tables marks.old found.old witness.old) }
+    ensures visits { VisitsFor (S.Walk.model system.now) (S.System.labels system.now) q result
+        (tables marks.old found.old witness.old) (tables marks.new found.new witness.new) }
 {
     if !in_counts(system, q) {
         return Err(Refusal::OutOfCounts);

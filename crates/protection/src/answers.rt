@@ -26,7 +26,9 @@ pub enum Refusal {
 impl Numbered for Refusal {
     ghost values = { refusal_values };
 
-    fn number(self) -> u32 {
+    fn number(self) -> u32
+        ensures { result ≡ (refusal_values self).number }
+    {
         match self {
             Refusal::OutOfCounts => 30,
             Refusal::ShortTable => 31,

@@ -1,4 +1,6 @@
-// A lent protection system is a protection system.
+// A lent protection system is a protection system, and the one that is lent.
+ghost use Rattle.std.specs.Prelude.{◌≡◌, is_some, nat_lt};
+
 use super::interface::System;
 use super::permission::Permission;
 
@@ -7,15 +9,22 @@ impl<'a, S: System> System for &'a S {
 
     ghost counts = { λ s. S.System.counts s.now };
 
-    fn objects(&self) -> u32 {
+    fn objects(&self) -> u32
+        ensures { result ≡ (S.System.labels self.now.now).objects }
+    {
         (**self).objects()
     }
 
-    fn rights(&self) -> u32 {
+    fn rights(&self) -> u32
+        ensures { result ≡ (S.System.labels self.now.now).rights }
+    {
         (**self).rights()
     }
 
-    fn label(&self, mv: u32) -> Option<Permission> {
+    fn label(&self, mv: u32) -> Option<Permission>
+        ensures value { result ≡ (S.System.labels self.now.now).label mv }
+        ensures exact { is_some result ≡ nat_lt mv (S.Walk.model self.now.now).moves }
+    {
         (**self).label(mv)
     }
 }

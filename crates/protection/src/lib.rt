@@ -7,7 +7,9 @@
 // numbered    refusals by their numbers
 // lent        a system that is lent is a system
 //
-// The safety promise is the clause `safety` of `analyse`; specs/Safety.antt says what it means.
+// The safety promise is the clause `safety` of `analyse`; specs/Safety.antt says what it means. When an
+// analysis is refused, and what it visits and writes otherwise, say the clauses `refused` and `visits`
+// (specs/Verdicts.antt).
 #![tactic(auto)]
 
 pub mod analysis;

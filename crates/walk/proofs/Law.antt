@@ -81,9 +81,7 @@ module _ (walk : Walk) (bounds : Bounds walk) (stop : ℕ → Bool) where
       early w few =
           let near = near_run walk stop found place m kept (depth found place) taken w.before w.at (omega arith) w.leads in
           let t = some_of (walk.step w.at w.last) w.enabled in
-          both_ways (stop w.last)
-          (near_unmet walk stop found place m kept (depth found place) taken w.at (length w.before) w.last t.0 near few t.1)
-          w.goal
+          near_unmet walk stop found place m kept (depth found place) taken w.at (length w.before) w.last t.0 near few t.1 w.goal
 
   exhausted_shown : (found : List Found) (tried : ℕ) → Kept walk stop found (length found) 0 → tried ≡ length found * walk.moves
       → ExhaustedMeans walk stop (length found) tried found
@@ -93,7 +91,7 @@ module _ (walk : Walk) (bounds : Bounds walk) (stop : ℕ → Bool) where
     lists = record {
       reached = λ i h. (moves_to found i, moves_lead walk stop found (length found) 0 kept i h);
       all = λ ms t e. (let n = near ms t e in (n.at, n.in_list, n.is_state));
-      once = kept.apart;
+      once = kept.visited.once;
     };
     all_tried = count;
   }
@@ -104,10 +102,8 @@ module _ (walk : Walk) (bounds : Bounds walk) (stop : ℕ → Bool) where
       none : (ms : List ℕ) → Meets walk stop ms → ⊥
       none ms w =
           let t = some_of (walk.step w.at w.last) w.enabled in
-          both_ways (stop w.last)
-          (near_unmet walk stop found (length found) 0 kept (length w.before + 1) (λ p l d. l) w.at (length w.before) w.last t.0
-          (near w.before w.at w.leads) (omega arith) t.1)
-          w.goal
+          near_unmet walk stop found (length found) 0 kept (length w.before + 1) (λ p l d. l) w.at (length w.before) w.last t.0
+          (near w.before w.at w.leads) (omega arith) t.1 w.goal
 
   shown : Shown walk stop (search_from walk stop)
   shown =

@@ -10,3 +10,5 @@ pub mod Witness
 pub mod Whole
 pub mod Reached
 pub mod Law
+pub mod Ways
+pub mod Seen

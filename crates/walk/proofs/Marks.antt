@@ -1,11 +1,14 @@
 -- Marks tell which states are listed, and one more entry changes one mark.
-use Rattle.std.proofs.Common.{◌≡◌, ℕ, ◌+◌, ◌<◌, true, false, cond, eqb, List, [], ◌∷◌, ◌++◌, length, set, slice_index, sym, refl, ap, ◌∙◌, ⊎_elim, arith}
-use Rattle.std.proofs.lemmas.Bool.{cond-true, cond-false, eq-eqb, ne_eqb, or_parts, or_from, cases_Bool, cases_eq}
-use Rattle.std.proofs.lemmas.List.{length-set, get_or-set_same, get_or-set_other}
+use Rattle.std.proofs.Common.{◌≡◌, ℕ, zero, suc, ◌+◌, ◌<◌, true, false, cond, eqb, ◌⊎◌, List, [], ◌∷◌, ◌++◌, length, set, slice_index, sym, refl, ap, ◌∙◌, inl, inr, ⊎_elim, arith}
+use Rattle.std.proofs.lemmas.Bool.{cond-true, cond-false, eq-eqb, eqb-true, ne_eqb, or_parts, or_from, cases_Bool, cases_eq}
+use Rattle.std.proofs.lemmas.List.{length-set, get_or-set_same, get_or-set_other, get_or_append_left}
+use Rattle.std.proofs.lemmas.List.FromFn.{get_or-map-range_with_len, length-map-range_with_len}
 use Rattle.walk.specs.declared.records.Found.{Found}
-use Rattle.walk.specs.Search.{entry, listed}
-use Rattle.walk.specs.Results.{mark_from}
+use Rattle.walk.specs.Search.{entry, state_at, listed}
+use Rattle.walk.specs.Results.{mark_from, mark, marks_of}
+use Rattle.walk.specs.Written.{MarksTell}
 use Rattle.walk.specs.Tables.{Marked}
+use Rattle.walk.proofs.Basics.{not_listed}
 
 mark_from_zero : (k : ℕ) (found : List Found) (s : ℕ) → mark_from k found s ≡ 0 → listed found s ≡ false
 mark_from_zero k [] s e = refl
@@ -51,3 +54,50 @@ marked_more marks found t p m old new s h =
     (λ (n : t ≡ s → ⊥).
     get_or-set_other marks t s (length found + 1) 0 (λ e. n (sym e)) ∙ (old s l ∙ sym (mark_from_old 0 found t p m s n)))
     (cases_eq t s)
+
+-- a mark that is not 0 tells where the state is listed
+mark_from_some : (k : ℕ) (found : List Found) (s n : ℕ) → mark_from k found s ≡ n + 1
+    → (i : ℕ) × (i < length found) × (k + i ≡ n) × (state_at found i ≡ s)
+mark_from_some k [] s n e = absurd (omega (arith, e))
+mark_from_some k (x ∷ xs) s n e =
+    ⊎_elim
+    (λ h. (0, omega arith, omega (arith, sym (cond-true (eqb x.state s) (k + 1) (mark_from (k + 1) xs s) h) ∙ e), eqb-true x.state s h))
+    (λ h.
+    let r = mark_from_some (k + 1) xs s n (sym (cond-false (eqb x.state s) (k + 1) (mark_from (k + 1) xs s) h) ∙ e) in
+    (suc r.0, omega (arith, r.1), omega (arith, r.2), r.3))
+    (cases_Bool (eqb x.state s))
+
+mark_cases : (n : ℕ) → (n ≡ 0) ⊎ ((k : ℕ) × (n ≡ k + 1))
+mark_cases zero = inl refl
+mark_cases (suc n) = inr (n, omega arith)
+
+-- where each state stands once, the marks of a list tell its indexes
+pub marks_tell : (states : ℕ) (found : List Found) (rest : List ℕ)
+    → ((i j : ℕ) → i < length found → j < length found → state_at found i ≡ state_at found j → i ≡ j)
+    → MarksTell states found (marks_of states found ++ rest)
+marks_tell states found rest once = record {
+  listed = λ s i below here. (
+    λ e.
+        let r = mark_from_some 0 found s i (sym (at_state s below) ∙ e) in
+        let same : r.0 ≡ i = omega (arith, r.2) in
+        ap (state_at found) (sym same) ∙ r.3,
+    λ w. at_state s below ∙ ⊎_elim
+        (λ zero'. absurd (not_listed found s (mark_from_zero 0 found s zero') i here w))
+        (λ more.
+        let r = mark_from_some 0 found s more.0 more.1 in
+        omega (arith, more.1, r.2, once r.0 i r.1 here (r.3 ∙ sym w)))
+        (mark_cases (mark found s)),
+  );
+  unlisted = λ s below. (
+    λ e. not_listed found s (mark_from_zero 0 found s (sym (at_state s below) ∙ e)),
+    λ none. at_state s below ∙ ⊎_elim
+        (λ zero'. zero')
+        (λ more. (let r = mark_from_some 0 found s more.0 more.1 in absurd (none r.0 r.1 r.3)))
+        (mark_cases (mark found s)),
+  );
+}
+  where
+    at_state : (s : ℕ) → s < states → slice_index (marks_of states found ++ rest) s ≡ mark found s
+    at_state s below =
+        get_or_append_left (marks_of states found) rest 0 s (omega (arith, length-map-range_with_len (mark found) 0 states))
+        ∙ get_or-map-range_with_len (mark found) 0 states s s 0 below (omega arith)

@@ -48,4 +48,4 @@ module _ (found : List Found) (rooted : Rooted found) where
   depth_le p h = path_short p p h
 
 pub kept_rooted : (walk : Walk) (stop : ℕ → Bool) (found : List Found) (place m : ℕ) → Kept walk stop found place m → Rooted found
-kept_rooted walk stop found place m kept i pos h = (kept.comes i pos h).before
+kept_rooted walk stop found place m kept i pos h = (kept.visited.comes i pos h).earlier

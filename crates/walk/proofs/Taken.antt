@@ -82,7 +82,7 @@ module _ (walk : Walk) (stop : ℕ → Bool) (first : Listing) where
   halted l place m s same list = record {
     list = list;
     size = same.marks_length;
-    some = omega (arith, s.kept.some, length-take-le l.count l.table.now s.fits);
+    some = omega (arith, s.kept.visited.some, length-take-le l.count l.table.now s.fits);
     rest = s.rest;
   }
 

@@ -1,7 +1,7 @@
 -- What the tables hold at the end.
 use Rattle.std.proofs.Common.{◌≡◌, ℕ, ◌≤◌, Bool, List, ◌++◌, length, take, drop, sym, ap, ◌∙◌, arith}
 use Rattle.std.proofs.lemmas.List.{length-take-le, take-append-drop, drop-append-le, append_assoc}
-use Rattle.std.proofs.lemmas.List.FromFn.{fill_by_all}
+use Rattle.std.proofs.lemmas.List.FromFn.{fill_by_all, length-map-range_with_len}
 use Rattle.walk.specs.declared.records.Found.{Found}
 use Rattle.walk.specs.declared.listing.Listing.{Listing}
 use Rattle.walk.specs.Walks.{Walk}
@@ -30,6 +30,12 @@ over_part xs table n h fits =
     ∙ ap (λ l. xs ++ l)
     (sym (drop-append-le (length xs) (take n table) (drop n table) (omega (arith, length-take-le n table fits)))
     ∙ ap (λ l. drop (length xs) l) (take-append-drop n table))
+
+-- the caller's marks, of which the first n were lent
+pub marks_whole : (n k : ℕ) (marks xs : List ℕ) (list : List Found) → xs ≡ marks_of n list → k ≡ n → xs ++ drop k marks ≡ over (marks_of n list) marks
+marks_whole n k marks xs list e same =
+    ap (λ (l : List ℕ). l ++ drop k marks) e
+    ∙ ap (λ (j : ℕ). marks_of n list ++ drop j marks) (same ∙ sym (length-map-range_with_len (mark list) 0 n))
 
 -- the caller's found table, of which the first n entries were lent
 pub found_whole : (n k : ℕ) (table xs list : List Found) → xs ≡ over list (take k table) → k ≡ n → length list ≤ n → n ≤ length table

@@ -1,5 +1,7 @@
 pub mod Walks
 pub mod Search
+pub mod Visited
+pub mod Written
 pub mod Kept
 pub mod Tables
 pub mod Listings

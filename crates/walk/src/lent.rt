@@ -1,4 +1,6 @@
-// A lent walk is a walk.
+// A lent walk is a walk, and the one that is lent.
+ghost use Rattle.std.specs.Prelude.{◌≡◌};
+
 use super::interface::Walk;
 
 impl<'a, W: Walk> Walk for &'a W {
@@ -6,19 +8,27 @@ impl<'a, W: Walk> Walk for &'a W {
 
     ghost bounds = { λ w. W.Walk.bounds w.now };
 
-    fn states(&self) -> u32 {
+    fn states(&self) -> u32
+        ensures { result ≡ (W.Walk.model self.now.now).states }
+    {
         (**self).states()
     }
 
-    fn start(&self) -> u32 {
+    fn start(&self) -> u32
+        ensures { result ≡ (W.Walk.model self.now.now).start }
+    {
         (**self).start()
     }
 
-    fn moves(&self) -> u32 {
+    fn moves(&self) -> u32
+        ensures { result ≡ (W.Walk.model self.now.now).moves }
+    {
         (**self).moves()
     }
 
-    fn step(&self, state: u32, mv: u32) -> Option<u32> {
+    fn step(&self, state: u32, mv: u32) -> Option<u32>
+        ensures { result ≡ (W.Walk.model self.now.now).step state mv }
+    {
         (**self).step(state, mv)
     }
 }

@@ -7,12 +7,15 @@
 // trace      the witness, back along the parents
 // lent       a walk that is lent is a walk
 //
-// What a search says of the walk's runs is the clause `means` of `search`.
+// What a search says of the walk's runs is the clause `means` of `search`; which states it lists, in
+// which order, and what it writes are the clause `visits`.
 #![tactic(auto)]
 
-ghost use Rattle.std.specs.Prelude.{◌≡◌, length};
+ghost use Rattle.std.specs.Prelude.{◌≡◌, ◌↔◌, length, None};
 ghost use Rattle.walk.specs.Results.{search_answer, marks_after, found_after, witness_after};
 ghost use Rattle.walk.specs.Runs.{Means};
+ghost use Rattle.walk.specs.Visited.{Met};
+ghost use Rattle.walk.specs.Written.{tables, SomeShort, Visits};
 
 pub mod interface;
 pub mod lent;
@@ -42,6 +45,10 @@ pub fn search<W: Walk, G: Goal>(
     ensures found { found.new ≡ found_after (W.Walk.model walk.now) (G.Goal.stops goal.now) result found.old }
     ensures witness { witness.new ≡ witness_after (W.Walk.model walk.now) (G.Goal.stops goal.now) result witness.old }
     ensures means { Means (W.Walk.model walk.now) (G.Goal.stops goal.now) result found.new witness.new }
+    ensures refused { (result ≡ None)
+        ↔ SomeShort (W.Walk.model walk.now).states (tables marks.old found.old witness.old) }
+    ensures visits { Visits (W.Walk.model walk.now) (Met (G.Goal.stops goal.now)) result
+        (tables marks.old found.old witness.old) (tables marks.new found.new witness.new) }
 {
     let states = walk.states() as usize;
     if marks.len() < states || found.len() < states || witness.len() < states {
