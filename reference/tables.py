@@ -162,16 +162,23 @@ class Monitor:
         return "no" if self.lowest(p) is None else "yes"
 
 
+def new_case():
+    return {"fills": [], "inner": [], "outer": [], "asked": []}
+
+
 def answer(lines):
-    case = {"table": [], "labels": [], "entries": [], "inner": [], "outer": [], "asked": []}
+    """A line `table` begins numbers; where a case has more than one, they are handed in one after another."""
+    case = new_case()
     for line in lines:
         word, *rest = line.split()
         numbers = [int(x) for x in rest]
         if word == "end":
             yield from answer_case(case)
-            case = {"table": [], "labels": [], "entries": [], "inner": [], "outer": [], "asked": []}
-        elif word in ("table", "labels", "entries"):
-            case[word] = numbers
+            case = new_case()
+        elif word == "table":
+            case["fills"].append({"table": numbers, "labels": [], "entries": []})
+        elif word in ("labels", "entries"):
+            case["fills"][-1][word] = numbers
         elif word in ("inner", "outer"):
             case[word].append(tuple(numbers))
         else:
@@ -179,22 +186,31 @@ def answer(lines):
 
 
 def answer_case(case):
-    counts = (case["table"] + [0] * 5)[:5]
-    table = Table(*counts, case["labels"], case["entries"])
-    refusal = table_refusal(table)
-    if refusal:
-        yield " ".join(["refused"] + [str(x) for x in refusal])
-        table = BARE
-    else:
-        yield "filled"
+    """What is asked is asked of the table before each further filling, and at the end under the locks."""
+    table = BARE
+    for i, given in enumerate(case["fills"]):
+        if i > 0:
+            yield from ask(System(table), case["asked"])
+        counts = (given["table"] + [0] * 5)[:5]
+        offered = Table(*counts, given["labels"], given["entries"])
+        refusal = table_refusal(offered)
+        if refusal:
+            yield " ".join(["refused"] + [str(x) for x in refusal])
+        else:
+            yield "filled"
+            table = offered
     system = System(table)
     for name in ("inner", "outer"):
         locks = []
         system.lists.append(locks)
         for p in case[name]:
             yield system.lock(locks, p)
+    yield from ask(system, case["asked"])
+
+
+def ask(system, asked):
     monitor = Monitor(system)
-    for word, n in case["asked"]:
+    for word, n in asked:
         if word == "query":
             yield from analyse(system, tuple(n[:3]), *n[3:6])
         elif word == "enforce":
@@ -209,12 +225,12 @@ def answer_case(case):
             monitor.state = system.table.start
 
 
-def show_case(counts, labels, entries, inner=(), outer=(), asked=()):
+def show_case(counts, labels, entries, inner=(), outer=(), asked=(), later=()):
     def line(word, numbers):
         return " ".join([word] + [str(x) for x in numbers])
-    yield line("table", counts)
-    yield line("labels", labels)
-    yield line("entries", entries)
+    for numbers in [(counts, labels, entries)] + list(later):
+        for word, given in zip(("table", "labels", "entries"), numbers):
+            yield line(word, given)
     for p in inner:
         yield line("inner", p)
     for p in outer:
@@ -263,6 +279,39 @@ def fixed_cases():
     # a chain whose witness has eleven moves
     yield show_case([12, 2, 2, 2, 0], [0, 1, 0, 1, 0, 1], [x for i in range(12) for x in (i + 2 if i < 10 else 0, 1 if i == 10 else 0)],
                     asked=[("query", (1, 0, 1, 13, 14, 15)), ("query", (0, 1, 1, 12, 12, 12))])
+
+
+    yield from more_fixed_cases()
+
+
+def more_fixed_cases():
+    """Numbers handed in again, the most moves, and ranks of refusals."""
+    # three states and two moves of one label; each state has steps of its own, so that no other order of the
+    # entries gives the same
+    three = ([3, 2, 2, 2, 1], [0, 1, 1, 0, 1, 1], [0, 3, 3, 1, 2, 0])
+    q = (0, 1, 1)
+    asked = [("state", ()), ("request", q), ("state", ()), ("may", q), ("request", q), ("state", ()), ("enforce", (1,)), ("state", ()),
+             ("enforce", (0,)), ("may", q), ("request", q), ("state", ()), ("enforce", (1,)), ("enforce", (2,)), ("restart", ()), ("state", ()),
+             ("query", q + (3, 3, 3)), ("query", (1, 0, 0, 4, 4, 4))]
+    yield show_case(*three, asked=asked)
+    yield show_case(*three, inner=[(1, 0, 1)], outer=[q], asked=asked)
+    # refused after it was accepted, by each refusal, and accepted again
+    for later in (([3, 4097, 2, 2, 1], [], []), ([3, 2, 2, 2, 1], [0, 1, 1], [0, 3, 3, 1, 2, 0]), ([3, 2, 2, 2, 3], three[1], three[2]),
+                  ([3, 2, 2, 1, 2], three[1], three[2]), ([3, 2, 2, 2, 0], three[1], [0, 3, 3, 1, 2, 4])):
+        yield show_case(*three, asked=asked[:6] + asked[16:], later=[later])
+    yield show_case([2, 1, 2, 1, 2], [0, 1, 0], [2, 0], asked=asked[:6] + asked[16:], later=[three])
+    yield show_case(*three, asked=asked[:6] + asked[16:], later=[([2, 1, 2, 2, 0], [1, 0, 1], [2, 0]), ([2, 1, 2, 2, 2], [1, 0, 1], [2, 0])])
+    # as many moves as there may be: the last one alone is enabled
+    yield show_case([1, 4096, 1, 1, 0], [0] * 3 * 4096, [0] * 4095 + [1],
+                    asked=[("may", (0, 0, 0)), ("request", (0, 0, 0)), ("enforce", (4095,)), ("enforce", (4094,)), ("enforce", (4096,)),
+                           ("query", (0, 0, 0, 1, 1, 1))])
+    # out of the counts ranks before a short table, whichever number and whichever table it is
+    short = [(tables, p) for tables in ((2, 3, 3), (3, 2, 3), (3, 3, 2), (0, 0, 0)) for p in ((2, 1, 1), (0, 2, 1), (0, 1, 2), (1, 1, 1))]
+    yield show_case(*three, asked=[("query", p + tables) for tables, p in short])
+    # out of the counts ranks before a full list, and so does a permission that is on it
+    many = [(s, o, 0) for s in range(4) for o in range(4)]
+    yield show_case([1, 1, 4, 1, 0], [3, 3, 0], [1], inner=many + [(4, 0, 0), (0, 4, 0), (0, 0, 1), (3, 3, 0), (0, 0, 0)],
+                    outer=[(0, 0, 1)] + many[1:] + [(0, 0, 0), (2, 2, 0), (4, 4, 4)], asked=[("may", (3, 3, 0)), ("enforce", (0,))])
 
 
 def damage(rng, labels, entries, states):

@@ -1,1 +1,2 @@
+pub mod CallLaws
 pub mod ReplayLaws

@@ -1,8 +1,9 @@
 -- A replay, turn by turn, and what it says of the calls of `enforce`.
-use Rattle.std.proofs.Common.{◌≡◌, ℕ, ◌+◌, ◌<◌, ◌≤◌, Bool, true, cond, List, [], ◌∷◌, ◌++◌, map, length, get_or, take, drop, is_ok, Some, None, Ok, Err, Option, Result, sym, refl, ap, ◌∙◌, subst, arith}
+use Rattle.std.proofs.Common.{◌≡◌, ℕ, suc, ◌+◌, ◌<◌, ◌≤◌, Bool, true, cond, List, [], ◌∷◌, ◌++◌, map, length, get_or, take, drop, is_ok, Some, None, Ok, Err, Option, Result, sym, refl, ap, ◌∙◌, subst, arith}
 use Rattle.std.proofs.lemmas.List.{length-append, at_drop_more, at_drop_all}
 use Rattle.std.specs.Result.{result_ok, result_and}
 use Rattle.std.specs.Option.{option_to_list}
+use Rattle.walk.specs.Runs.{on_from, run_from}
 use Rattle.walk.specs.declared.records.Found.{Found}
 use Rattle.protection.specs.declared.permission.Permission.{Permission}
 use Rattle.protection.specs.declared.answers.Verdict.{Verdict}
@@ -12,8 +13,10 @@ use Rattle.protection.specs.Answers.{verdict_values}
 use Rattle.protection.specs.Safety.{Replays, Safety}
 use Rattle.protection.specs.Refusals.{Refused}
 use Rattle.protection.specs.Histories.{enforce, enforce_answer, granted, moved, after, leaves, grants}
-use Rattle.protection.proofs.HistoryLaws.{enforce_answers}
-use Rattle.monitor.specs.Replays.{replay_answer, replay_leaves, ReplayLaw}
+use Rattle.protection.proofs.HistoryLaws.{enforce_answers, granted_step}
+use Rattle.monitor.specs.Replays.{replay_answer, replay_leaves}
+use Rattle.monitor.specs.Calls.{MakesMovesInTurn}
+use Rattle.monitor.proofs.CallLaws.{enforce_law}
 
 module _ (system : System) where
   -- what a replay of the moves from the place i on answers and leaves, in the state s
@@ -68,20 +71,8 @@ module _ (system : System) where
       at_most_one : (o : Option ℕ) → length (option_to_list o) ≤ 1
       at_most_one o = elim o as (λ x. length (option_to_list x) ≤ 1) [ Some k ↦ omega arith | None ↦ omega arith ]
 
-  to_grants : (ms : List ℕ) (s : ℕ) → replay_answer system s ms ≡ Ok tt → grants system s (map enforce ms) ≡ ms
-  unfolding replay_answer grants
-  to_grants [] s e = refl
-  to_grants (m ∷ ms) s e = go (enforce_answer system s m) refl e (to_grants ms (after system s (enforce m)))
-    where
-      go : (x : Result ℕ Refused) → enforce_answer system s m ≡ x → result_and x (replay_answer system (after system s (enforce m)) ms) ≡ Ok tt
-          → (replay_answer system (after system s (enforce m)) ms ≡ Ok tt → grants system (after system s (enforce m)) (map enforce ms) ≡ ms)
-          → option_to_list (result_ok (enforce_answer system s m)) ++ grants system (after system s (enforce m)) (map enforce ms) ≡ m ∷ ms
-      go (Ok k) f h on =
-          ap (λ (x : Result ℕ Refused). option_to_list (result_ok x) ++ grants system (after system s (enforce m)) (map enforce ms)) f
-          ∙ (ap (λ (l : List ℕ). k ∷ l) (on h) ∙ ap (λ (j : ℕ). j ∷ ms) (enforce_answers system s m k f))
-      go (Err d) f h on = let z : ◌≡◌ {A = ℕ} 0 1 = cc in absurd (omega arith)
-
-  from_grants : (ms : List ℕ) (s : ℕ) → grants system s (map enforce ms) ≡ ms → replay_answer system s ms ≡ Ok tt
+  -- what calls of `enforce` grant, move by move, a replay grants
+  pub from_grants : (ms : List ℕ) (s : ℕ) → grants system s (map enforce ms) ≡ ms → replay_answer system s ms ≡ Ok tt
   unfolding replay_answer grants
   from_grants [] s e = refl
   from_grants (m ∷ ms) s e = go (enforce_answer system s m) refl (from_grants ms (after system s (enforce m)))
@@ -99,25 +90,57 @@ module _ (system : System) where
           = sym (ap (λ (x : Result ℕ Refused). option_to_list (result_ok x) ++ grants system (after system s (enforce m)) (map enforce ms)) f) ∙ e in
           absurd (omega (arith, grants_few ms (after system s (enforce m)), ap (λ (l : List ℕ). length l) cut))
 
-  left_by_calls : (ms : List ℕ) (s : ℕ) → replay_answer system s ms ≡ Ok tt → replay_leaves system s ms ≡ leaves system s (map enforce ms)
-  unfolding replay_answer replay_leaves leaves
-  left_by_calls [] s e = refl
-  left_by_calls (m ∷ ms) s e = go (enforce_answer system s m) refl e (left_by_calls ms (after system s (enforce m)))
+  -- a replay makes the moves in turn, up to the first that is refused
+  in_turn : (ms : List ℕ) (s : ℕ) → MakesMovesInTurn system s ms (replay_answer system s ms) (replay_leaves system s ms)
+  unfolding replay_answer replay_leaves run_from grants leaves
+  in_turn [] s = record {
+    count = 0;
+    not_more = omega arith;
+    steps_lead_there = refl;
+    granted_as_calls = refl;
+    left_by_calls = refl;
+    all_granted = (λ _. refl, λ _. refl);
+    next_is_refused = λ r bad. cc;
+  }
+  in_turn (m ∷ ms) s = go (enforce_answer system s m) refl (in_turn ms (after system s (enforce m)))
     where
-      go : (x : Result ℕ Refused) → enforce_answer system s m ≡ x → result_and x (replay_answer system (after system s (enforce m)) ms) ≡ Ok tt
-          → (replay_answer system (after system s (enforce m)) ms ≡ Ok tt
-          → replay_leaves system (after system s (enforce m)) ms ≡ leaves system (after system s (enforce m)) (map enforce ms))
-          → cond (is_ok (enforce_answer system s m)) (replay_leaves system (after system s (enforce m)) ms) s
-          ≡ leaves system (after system s (enforce m)) (map enforce ms)
-      go (Ok k) f h on = ap (λ (x : Result ℕ Refused). cond (is_ok x) (replay_leaves system (after system s (enforce m)) ms) s) f ∙ on h
-      go (Err d) f h on = let z : ◌≡◌ {A = ℕ} 0 1 = cc in absurd (omega arith)
+      go : (x : Result ℕ Refused) → enforce_answer system s m ≡ x
+          → MakesMovesInTurn system (after system s (enforce m)) ms (replay_answer system (after system s (enforce m)) ms) (replay_leaves system (after system s (enforce m)) ms)
+          → MakesMovesInTurn system s (m ∷ ms) (result_and x (replay_answer system (after system s (enforce m)) ms)) (cond (is_ok x) (replay_leaves system (after system s (enforce m)) ms) s)
+      go (Ok k) f rest =
+          let granted_here : granted system s (enforce m) ≡ Some m
+          = ap (λ (x : Result ℕ Refused). result_ok x) f ∙ ap Some (enforce_answers system s m k f) in
+          record {
+            count = suc rest.count;
+            not_more = omega (arith, rest.not_more);
+            steps_lead_there =
+                ap (λ (o : Option ℕ). on_from o (λ x. run_from system.walk x (take rest.count ms))) (granted_step system s (enforce m) m granted_here)
+                ∙ rest.steps_lead_there;
+            granted_as_calls =
+                ap (λ (l : List ℕ). l ++ grants system (after system s (enforce m)) (map enforce (take rest.count ms))) (ap option_to_list granted_here)
+                ∙ ap (λ (l : List ℕ). m ∷ l) rest.granted_as_calls;
+            left_by_calls = rest.left_by_calls;
+            all_granted = (λ ok. ap suc (rest.all_granted.0 ok), λ all. rest.all_granted.1 (omega (arith, all)));
+            next_is_refused = rest.next_is_refused;
+          }
+      go (Err d) f rest = record {
+        count = 0;
+        not_more = omega arith;
+        steps_lead_there = refl;
+        granted_as_calls = refl;
+        left_by_calls = refl;
+        all_granted = (λ bad. cc, λ none. absurd (omega (arith, none)));
+        next_is_refused = λ r e.
+            (let same : d ≡ r = cc in
+            let refused : Err r ≡ enforce_answer system s m = sym (f ∙ ap Err same) in
+            enforce_law system s m (Err r) s refused (sym (refused_stays s m r refused)));
+      }
 
   pub replay_law : (s : ℕ) (ms : List ℕ) (answer : Result Unit Refused) (t : ℕ) → answer ≡ replay_answer system s ms → t ≡ replay_leaves system s ms
-      → ReplayLaw system s ms answer t
-  replay_law s ms answer t ea et = record {
-    all_granted = (λ ok. to_grants ms s (sym ea ∙ ok), λ each. ea ∙ from_grants ms s each);
-    left_by_calls = λ ok. et ∙ left_by_calls ms s (sym ea ∙ ok);
-  }
+      → MakesMovesInTurn system s ms answer t
+  replay_law s ms answer t ea et =
+      subst (λ (x : Result Unit Refused). MakesMovesInTurn system s ms x t) (sym ea)
+      (subst (MakesMovesInTurn system s ms (replay_answer system s ms)) (sym et) (in_turn ms s))
 
 -- what grants every witness grants that of a leak
 pub witness_granted : (system : System) (q : Permission) (v : Verdict) (found : List Found) (witness : List ℕ) (count tried total : ℕ) (r : Bool)

@@ -1,2 +1,3 @@
 pub mod Denials
+pub mod Calls
 pub mod Replays

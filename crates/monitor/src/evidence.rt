@@ -4,6 +4,8 @@ ghost use Rattle.protection.specs.Meaning.{meaning};
 ghost use Rattle.protection.specs.Answers.{told};
 ghost use Rattle.protection.specs.Analysis.{analysis_answer, marks_left, found_left, witness_left};
 ghost use Rattle.protection.specs.Safety.{Replays, Promise};
+ghost use Rattle.protection.specs.Verdicts.{Refuses, VisitsFor};
+ghost use Rattle.walk.specs.Written.{tables};
 ghost use Rattle.monitor.specs.Replays.{replay_answer};
 
 use super::Monitor;
@@ -32,6 +34,10 @@ pub fn confirm<S: System>(
     ensures found { found.new ≡ found_left (meaning S.Walk S.System.own system.now) q result found.old }
     ensures witness { witness.new ≡ witness_left (meaning S.Walk S.System.own system.now) q result witness.old }
     ensures safety { Promise (meaning S.Walk S.System.own system.now) q result found.new witness.new }
+    ensures refused { Refuses (S.Walk.model system.now) (S.System.labels system.now) q (told result)
+        (tables marks.old found.old witness.old) }
+    ensures visits { VisitsFor (S.Walk.model system.now) (S.System.labels system.now) q result
+        (tables marks.old found.old witness.old) (tables marks.new found.new witness.new) }
 {
     let verdict = analyse(system, q, marks, found, witness)?;
     if let Verdict::Leak { length, .. } = verdict {

@@ -10,7 +10,8 @@ ghost use Rattle.protection.specs.Meaning.{meaning};
 ghost use Rattle.protection.specs.Refusals.{numbered};
 ghost use Rattle.protection.specs.Histories.{enforce as call_enforce, request as call_request, restart as call_restart, enabled_as, lowest_enabled, enforce_answer, request_answer, may_answer, after};
 ghost use Rattle.monitor.specs.Denials.{denial_values};
-ghost use Rattle.monitor.specs.Replays.{replay_answer, replay_leaves, ReplayLaw};
+ghost use Rattle.monitor.specs.Replays.{replay_answer, replay_leaves};
+ghost use Rattle.monitor.specs.Calls.{MakesThatMove, MakesTheLowestMove, TellsWhetherEnabled, MakesMovesInTurn};
 
 use protection::{Permission, System, in_counts};
 use walk::Walk;
@@ -44,6 +45,8 @@ impl<S: System> Monitor<S> {
         ensures answer { numbered denial_values result ≡ enforce_answer (meaning S.Walk S.System.own self.old.system) self.old.state mv }
         ensures state { self.new.state ≡ after (meaning S.Walk S.System.own self.old.system) self.old.state (call_enforce mv) }
         ensures system { self.new.system ≡ self.old.system }
+        ensures makes_that_move { let system = meaning S.Walk S.System.own self.old.system in
+            MakesThatMove system self.old.state mv (numbered denial_values result) self.new.state }
     {
         if mv >= self.system.moves() {
             return Err(Denial::NoSuchMove);
@@ -58,6 +61,8 @@ impl<S: System> Monitor<S> {
         ensures answer { numbered denial_values result ≡ request_answer (meaning S.Walk S.System.own self.old.system) self.old.state p }
         ensures state { self.new.state ≡ after (meaning S.Walk S.System.own self.old.system) self.old.state (call_request p) }
         ensures system { self.new.system ≡ self.old.system }
+        ensures makes_the_lowest_move { let system = meaning S.Walk S.System.own self.old.system in
+            MakesTheLowestMove system self.old.state p (numbered denial_values result) self.new.state }
     {
         if !in_counts(&self.system, p) {
             return Err(Denial::OutOfCounts);
@@ -68,7 +73,9 @@ impl<S: System> Monitor<S> {
 
     // Says whether a move with that label is enabled.
     pub fn may(&self, p: Permission) -> Result<bool, Denial>
-        ensures { numbered denial_values result ≡ may_answer (meaning S.Walk S.System.own self.now.system) self.now.state p }
+        ensures answer { numbered denial_values result ≡ may_answer (meaning S.Walk S.System.own self.now.system) self.now.state p }
+        ensures tells_whether_enabled { let system = meaning S.Walk S.System.own self.now.system in
+            TellsWhetherEnabled system self.now.state p (numbered denial_values result) }
     {
         if !in_counts(&self.system, p) {
             return Err(Denial::OutOfCounts);
@@ -85,6 +92,7 @@ impl<S: System> Monitor<S> {
     // Goes back to the start state.
     pub fn restart(&mut self)
         ensures state { self.new.state ≡ after (meaning S.Walk S.System.own self.old.system) self.old.state call_restart }
+        ensures at_the_start { self.new.state ≡ (meaning S.Walk S.System.own self.old.system).walk.start }
         ensures system { self.new.system ≡ self.old.system }
     {
         self.state = self.system.start();
@@ -95,7 +103,8 @@ impl<S: System> Monitor<S> {
         ensures answer { numbered denial_values result ≡ replay_answer (meaning S.Walk S.System.own self.old.system) self.old.state moves.now }
         ensures state { self.new.state ≡ replay_leaves (meaning S.Walk S.System.own self.old.system) self.old.state moves.now }
         ensures system { self.new.system ≡ self.old.system }
-        ensures law { ReplayLaw (meaning S.Walk S.System.own self.old.system) self.old.state moves.now (numbered denial_values result) self.new.state }
+        ensures makes_moves_in_turn { let system = meaning S.Walk S.System.own self.old.system in
+            MakesMovesInTurn system self.old.state moves.now (numbered denial_values result) self.new.state }
     {
         for mv in moves {
             self.enforce(*mv)?;

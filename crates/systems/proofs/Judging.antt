@@ -1,194 +1,177 @@
--- The computed answer of `fill` is the judgement that the table of refusals gives, and the only one.
-use Rattle.std.proofs.Common.{◌≡◌, ℕ, zero, suc, ◌<◌, ◌≤◌, Bool, true, false, cond, ltb, leb, ◌⊎◌, length, Some, None, Ok, Err, Option, Result, slice_index, sym, refl, ap, ◌∙◌, subst, inl, inr, ⊎_elim, arith}
-use Rattle.std.proofs.lemmas.Bool.{both_ways, cases_eq, cases_lt, not-false, not-true, ltb-true, ltb-false, leb-true, leb-false, le-leb, eq-eqb}
+-- The computed answer of `fill` is the one that the table of refusals gives, and the only one.
+use Rattle.std.proofs.Common.{◌≡◌, ℕ, ◌<◌, ◌≤◌, Bool, true, false, cond, ltb, leb, ◌⊎◌, List, [], ◌∷◌, length, Some, None, Ok, Err, Option, Result, slice_index, sym, refl, ap, ◌∙◌, subst, inl, inr, ⊎_elim, arith}
+use Rattle.std.proofs.lemmas.Bool.{both_ways, cases_order, not-false, not-true, ltb-true, ltb-false, leb-true, leb-false, le-leb, eq-eqb}
 use Rattle.std.specs.Option.{option_map, option_or}
-use Rattle.std.specs.Result.{result_map_both}
 use Rattle.protection.specs.Lowest.{lowest}
-use Rattle.protection.specs.Refusals.{Refused, refused, numbered}
+use Rattle.protection.specs.Refusals.{Refused, refused}
 use Rattle.protection.proofs.LowestLaws.{lowest_none, lowest_first}
-use Rattle.systems.specs.declared.refusals.TableRefusal.{TableRefusal}
-use Rattle.systems.specs.declared.refusals.TableRefusal.TheVariants.{Counts, Lengths, Start, Label, Entry}
-use Rattle.systems.specs.Refusals.{refused_at, table_refusal_values}
-use Rattle.systems.specs.Tables.{Table, refusal, fill_answer, counts_out, lengths_out, label_out, entry_out}
-use Rattle.systems.specs.TableRefusing.{Applies, rank, place, First, Judged, Lawful}
+use Rattle.protection.proofs.Within.{within_numbers}
+use Rattle.systems.specs.declared.numbers.Numbers.{Numbers}
+use Rattle.systems.specs.Refusals.{refused_at}
+use Rattle.systems.specs.Tables.{refusal, fill_answer, counts_out, lengths_out, label_out, entry_out, permission_at}
+use Rattle.systems.specs.TableNumbers.{table_of}
+use Rattle.systems.specs.TableRefusing.{CountBounds, LengthsMatch, LabelFits, Applies, counts, lengths, start, label, entry, IsFirst, IsJudged, AnsweredByTheTable}
 use Rattle.systems.specs.TableLaws.{count_bounds, lengths_match}
 
--- the refusal of a rank at a place
-abbrev at : ℕ → ℕ → TableRefusal
-at zero p = Counts
-at (suc zero) p = Lengths
-at (suc (suc zero)) p = Start
-at (suc (suc (suc zero))) p = Label p
-at (suc (suc (suc (suc n)))) p = Entry p
+-- the place j, h is before the place k, i
+abbrev Earlier : (j h k i : ℕ) → Type 0
+Earlier j h k i = (j < k) ⊎ ((j ≡ k) × (h < i))
 
-at_itself : (f : TableRefusal) → at (rank f) (place f) ≡ f
-at_itself Counts = refl
-at_itself Lengths = refl
-at_itself Start = refl
-at_itself (Label m) = refl
-at_itself (Entry i) = refl
+in_row : (k h i : ℕ) → Earlier k h k i → h < i
+in_row k h i b = ⊎_elim (λ (lt : k < k). absurd (omega (arith, lt))) (λ (same : (k ≡ k) × (h < i)). same.1) b
 
-same_refusal : (f g : TableRefusal) → rank f ≡ rank g → place f ≡ place g → f ≡ g
-same_refusal f g r p = sym (at_itself f) ∙ (ap (λ n. at n (place f)) r ∙ (ap (at (rank g)) p ∙ at_itself g))
+not_later : (j h k i : ℕ) → k < j → ¬ Earlier j h k i
+not_later j h k i lt b =
+    ⊎_elim (λ (gt : j < k). omega (arith, lt, gt)) (λ (same : (j ≡ k) × (h < i)). omega (arith, lt, same.0)) b
 
--- a refusal by its number and values
-abbrev back : Refused → TableRefusal
-back r =
-    cond (ltb r.number 41) Counts (cond (ltb r.number 42) Lengths (cond (ltb r.number 43) Start
-    (cond (ltb r.number 44) (Label (slice_index r.values 0)) (Entry (slice_index r.values 0)))))
-
-back_values : (f : TableRefusal) → back (table_refusal_values f) ≡ f
-back_values Counts = refl
-back_values Lengths = refl
-back_values Start = refl
-back_values (Label m) = refl
-back_values (Entry i) = refl
-
-back_numbered : (r : Result Unit TableRefusal) → result_map_both (λ a. a) back (numbered table_refusal_values r) ≡ r
-back_numbered (Ok u) = refl
-back_numbered (Err f) = ap Err (back_values f)
-
--- the refusal by the outcome of the five tests
-abbrev decided : (a b c : Bool) (l e : Option ℕ) → Result Unit TableRefusal
-decided true b c l e = Err Counts
-decided false true c l e = Err Lengths
-decided false false true l e = Err Start
-decided false false false (Some m) e = Err (Label m)
-decided false false false None (Some i) = Err (Entry i)
-decided false false false None None = Ok tt
-
-decided_numbered : (a b c : Bool) (l e : Option ℕ) → numbered table_refusal_values (decided a b c l e)
-    ≡ elim (cond a (Some (refused 40)) (cond b (Some (refused 41)) (cond c (Some (refused 42)) (option_or (option_map (refused_at 43) l) (option_map (refused_at 44) e)))))
-    as (λ _. Result Unit Refused) [ Some r ↦ Err r | None ↦ Ok tt ]
-decided_numbered true b c l e = refl
-decided_numbered false true c l e = refl
-decided_numbered false false true l e = refl
-decided_numbered false false false (Some m) e = refl
-decided_numbered false false false None (Some i) = refl
-decided_numbered false false false None None = refl
-
-rank_few : (f : TableRefusal) → rank f < 5
-rank_few Counts = omega arith
-rank_few Lengths = omega arith
-rank_few Start = omega arith
-rank_few (Label m) = omega arith
-rank_few (Entry i) = omega arith
-
-lt_or_gt : (m n : ℕ) → (m ≡ n → ⊥) → (m < n) ⊎ (n < m)
-lt_or_gt m n ne = ⊎_elim (λ (lt : m < n). inl lt) (λ (ge : n ≤ m). inr (omega (arith, ge, ne))) (cases_lt m n)
-
-module _ (t : Table) where
-  of_rank : (g : TableRefusal) (n : ℕ) → rank g ≡ n → Applies t g → Applies t (at n (place g))
-  of_rank g n e applies = subst (Applies t) (sym (ap (λ k. at k (place g)) (sym e) ∙ at_itself g)) applies
-
-  -- no refusal of a lower rank applies
-  abbrev Clear : ℕ → Type 0
-  Clear n = (g : TableRefusal) → rank g < n → Applies t g → ⊥
-
-  none_yet : Clear 0
-  none_yet g lt applies = omega (arith, lt)
-
-  clear_next : (n : ℕ) → Clear n → ((p : ℕ) → Applies t (at n p) → ⊥) → Clear (suc n)
-  clear_next n clear none g lt applies =
-      ⊎_elim (λ (e : rank g ≡ n). none (place g) (of_rank g n e applies)) (λ ne. clear g (omega (arith, lt, ne)) applies) (cases_eq (rank g) n)
-
-  first_at : (n p : ℕ) (f : TableRefusal) → rank f ≡ n → place f ≡ p → Clear n → ((k : ℕ) → k < p → Applies t (at n k) → ⊥) → Applies t f → First t f
-  first_at n p f r q clear none applies = record {
-    applies = applies;
-    none_before = λ g before earlier.
-        ⊎_elim (λ (lt : rank g < rank f). clear g (omega (arith, lt, r)) earlier)
-        (λ (same : (rank g ≡ rank f) × (place g < place f)). none (place g) (omega (arith, same.1, q)) (of_rank g n (same.0 ∙ r) earlier))
-        before;
-  }
-
+module _ (n : Numbers) where
   -- each test says whether its condition applies
-  counts_apply : counts_out t.states t.moves t.objects t.rights ≡ true → Applies t Counts
+  counts_apply : counts_out n.states n.moves n.objects n.rights ≡ true → ¬ CountBounds n.states n.moves n.objects n.rights
   counts_apply out b =
-      let n = le-leb 1 t.states b.nonempty in
-      let s = le-leb t.states 1048576 b.most_states in
-      let m = le-leb t.moves 4096 b.most_moves in
-      let o = le-leb t.objects 255 b.most_objects in
-      let r = le-leb t.rights 255 b.most_rights in
-      let in_bounds : counts_out t.states t.moves t.objects t.rights ≡ false = simp (n, s, m, o, r) in
+      let s = le-leb 1 n.states b.nonempty in
+      let t = le-leb n.states 1048576 b.most_states in
+      let m = le-leb n.moves 4096 b.most_moves in
+      let o = le-leb n.objects 255 b.most_objects in
+      let r = le-leb n.rights 255 b.most_rights in
+      let in_bounds : counts_out n.states n.moves n.objects n.rights ≡ false = simp (s, t, m, o, r) in
       both_ways _ in_bounds out
 
-  lengths_apply : lengths_out t.states t.moves (length t.labels) (length t.entries) ≡ true → Applies t Lengths
+  lengths_apply : lengths_out n.states n.moves (length n.labels.now) (length n.entries.now) ≡ true
+      → ¬ LengthsMatch n.states n.moves (length n.labels.now) (length n.entries.now)
   lengths_apply out b =
       let l = eq-eqb _ _ b.labels_match in
       let e = eq-eqb _ _ b.entries_match in
-      let match : lengths_out t.states t.moves (length t.labels) (length t.entries) ≡ false = simp (l, e) in
+      let match : lengths_out n.states n.moves (length n.labels.now) (length n.entries.now) ≡ false = simp (l, e) in
       both_ways _ match out
 
-  fine_counts : counts_out t.states t.moves t.objects t.rights ≡ false → Clear 1
-  fine_counts ok = clear_next 0 none_yet (λ p applies. applies (count_bounds _ _ _ _ ok))
+  label_apply : (m : ℕ) → label_out n.objects n.rights n.labels.now m ≡ true → ¬ LabelFits n m
+  label_apply m out fits =
+      both_ways _ (not-true _ out)
+      ((within_numbers n.objects n.rights (permission_at n.labels.now m)).1 (fits.subject_below, fits.object_below, fits.right_below))
 
-  fine_lengths : Clear 1 → lengths_out t.states t.moves (length t.labels) (length t.entries) ≡ false → Clear 2
-  fine_lengths before ok = clear_next 1 before (λ p applies. applies (lengths_match _ _ _ _ ok))
+  label_fits : (m : ℕ) → label_out n.objects n.rights n.labels.now m ≡ false → LabelFits n m
+  label_fits m ok =
+      let w = (within_numbers n.objects n.rights (permission_at n.labels.now m)).0 (not-false _ ok) in
+      record { subject_below = w.0; object_below = w.1; right_below = w.2 }
 
-  fine_start : Clear 2 → leb t.states t.start ≡ false → Clear 3
-  fine_start before ok = clear_next 2 before (λ p (applies : t.states ≤ t.start). omega (arith, applies, leb-false _ _ ok))
+  -- nothing applies before the row k and, in it, the value i, where the tests before it were passed
+  module _ (k i : ℕ) (alone : k < 43 → i ≡ 0)
+      (bounds : 40 < k → CountBounds n.states n.moves n.objects n.rights)
+      (match : 41 < k → LengthsMatch n.states n.moves (length n.labels.now) (length n.entries.now))
+      (starts : 42 < k → n.start < n.states)
+      (fits : (m : ℕ) → m < n.moves → Earlier 43 m k i → LabelFits n m)
+      (low : (e : ℕ) → e < length n.entries.now → Earlier 44 e k i → slice_index n.entries.now e ≤ n.states) where
+    row_before : (j : ℕ) → j < 43 → Earlier j 0 k i → j < k
+    row_before j small b =
+        ⊎_elim (λ (lt : j < k). lt)
+        (λ (same : (j ≡ k) × (0 < i)). absurd (omega (arith, same.1, alone (omega (arith, small, same.0)))))
+        b
 
-  no_label : (m : ℕ) → label_out t.objects t.rights t.labels m ≡ false → Applies t (Label m) → ⊥
-  no_label m ok applies = both_ways _ applies.1 (not-false _ ok)
+    clear : (j : ℕ) (vs : List ℕ) → Applies n j vs → ¬ Earlier j (slice_index vs 0) k i
+    clear _ _ (counts out) b = out (bounds (row_before 40 (omega arith) b))
+    clear _ _ (lengths out) b = out (match (row_before 41 (omega arith) b))
+    clear _ _ (start out) b = omega (arith, out, starts (row_before 42 (omega arith) b))
+    clear _ _ (label m lt out) b = out (fits m lt b)
+    clear _ _ (entry e lt out) b = omega (arith, out, low e lt b)
 
-  no_entry : (i : ℕ) → entry_out t.states t.entries i ≡ false → Applies t (Entry i) → ⊥
-  no_entry i ok applies = omega (arith, applies.1, ltb-false _ _ ok)
-
-  fine_labels : Clear 3 → lowest (label_out t.objects t.rights t.labels) t.moves ≡ None → Clear 4
-  fine_labels before ok = clear_next 3 before (λ m applies. no_label m (lowest_none _ _ m ok applies.0) applies)
-
-  fine_entries : Clear 4 → lowest (entry_out t.states t.entries) (length t.entries) ≡ None → Clear 5
-  fine_entries before ok = clear_next 4 before (λ i applies. no_entry i (lowest_none _ _ i ok applies.0) applies)
+  -- a refusal of the table has one of its numbers
+  number_few : (j : ℕ) (vs : List ℕ) → Applies n j vs → j < 45
+  number_few _ _ (counts out) = omega arith
+  number_few _ _ (lengths out) = omega arith
+  number_few _ _ (start out) = omega arith
+  number_few _ _ (label m lt out) = omega arith
+  number_few _ _ (entry e lt out) = omega arith
 
   judged : (a b c : Bool) (l e : Option ℕ)
-      → counts_out t.states t.moves t.objects t.rights ≡ a
-      → lengths_out t.states t.moves (length t.labels) (length t.entries) ≡ b
-      → leb t.states t.start ≡ c
-      → lowest (label_out t.objects t.rights t.labels) t.moves ≡ l
-      → lowest (entry_out t.states t.entries) (length t.entries) ≡ e
-      → Judged t (decided a b c l e)
-  judged true b c l e ea eb ec el ee = first_at 0 0 Counts refl refl none_yet (λ k low applies. omega (arith, low)) (counts_apply ea)
-  judged false true c l e ea eb ec el ee =
-      first_at 1 0 Lengths refl refl (fine_counts ea) (λ k low applies. omega (arith, low)) (lengths_apply eb)
-  judged false false true l e ea eb ec el ee =
-      first_at 2 0 Start refl refl (fine_lengths (fine_counts ea) eb) (λ k low applies. omega (arith, low)) (leb-true _ _ ec)
+      → counts_out n.states n.moves n.objects n.rights ≡ a
+      → lengths_out n.states n.moves (length n.labels.now) (length n.entries.now) ≡ b
+      → leb n.states n.start ≡ c
+      → lowest (label_out n.objects n.rights n.labels.now) n.moves ≡ l
+      → lowest (entry_out n.states n.entries.now) (length n.entries.now) ≡ e
+      → IsJudged n (elim (cond a (Some (refused 40)) (cond b (Some (refused 41)) (cond c (Some (refused 42)) (option_or (option_map (refused_at 43) l) (option_map (refused_at 44) e)))))
+      as (λ _. Result Unit Refused) [ Some r ↦ Err r | None ↦ Ok tt ])
+  judged true b c l e ea eb ec el ee = record {
+    applies = counts (counts_apply ea);
+    none_before = λ q before applies.
+        clear 40 0 (λ _. refl) (λ lt. absurd (omega (arith, lt))) (λ lt. absurd (omega (arith, lt))) (λ lt. absurd (omega (arith, lt)))
+        (λ m lt b. absurd (not_later 43 m 40 0 (omega arith) b)) (λ i lt b. absurd (not_later 44 i 40 0 (omega arith) b))
+        q.number q.values applies before;
+  }
+  judged false true c l e ea eb ec el ee = record {
+    applies = lengths (lengths_apply eb);
+    none_before = λ q before applies.
+        clear 41 0 (λ _. refl) (λ _. count_bounds _ _ _ _ ea) (λ lt. absurd (omega (arith, lt))) (λ lt. absurd (omega (arith, lt)))
+        (λ m lt b. absurd (not_later 43 m 41 0 (omega arith) b)) (λ i lt b. absurd (not_later 44 i 41 0 (omega arith) b))
+        q.number q.values applies before;
+  }
+  judged false false true l e ea eb ec el ee = record {
+    applies = start (leb-true _ _ ec);
+    none_before = λ q before applies.
+        clear 42 0 (λ _. refl) (λ _. count_bounds _ _ _ _ ea) (λ _. lengths_match _ _ _ _ eb) (λ lt. absurd (omega (arith, lt)))
+        (λ m lt b. absurd (not_later 43 m 42 0 (omega arith) b)) (λ i lt b. absurd (not_later 44 i 42 0 (omega arith) b))
+        q.number q.values applies before;
+  }
   judged false false false (Some m) e ea eb ec el ee =
       let f = lowest_first _ _ m el in
-      first_at 3 m (Label m) refl refl (fine_start (fine_lengths (fine_counts ea) eb) ec) (λ k low. no_label k (f.least k low))
-      (f.below, not-true _ f.passes)
+      record {
+        applies = label m f.below (label_apply m f.passes);
+        none_before = λ q before applies.
+            clear 43 m (λ lt. absurd (omega (arith, lt))) (λ _. count_bounds _ _ _ _ ea) (λ _. lengths_match _ _ _ _ eb) (λ _. leb-false _ _ ec)
+            (λ j lt b. label_fits j (f.least j (in_row 43 j m b))) (λ i lt b. absurd (not_later 44 i 43 m (omega arith) b))
+            q.number q.values applies before;
+      }
   judged false false false None (Some i) ea eb ec el ee =
       let f = lowest_first _ _ i ee in
-      first_at 4 i (Entry i) refl refl (fine_labels (fine_start (fine_lengths (fine_counts ea) eb) ec) el) (λ k low. no_entry k (f.least k low))
-      (f.below, ltb-true _ _ f.passes)
-  judged false false false None None ea eb ec el ee = λ g applies.
-      fine_entries (fine_labels (fine_start (fine_lengths (fine_counts ea) eb) ec) el) ee g (rank_few g) applies
+      record {
+        applies = entry i f.below (ltb-true _ _ f.passes);
+        none_before = λ q before applies.
+            clear 44 i (λ lt. absurd (omega (arith, lt))) (λ _. count_bounds _ _ _ _ ea) (λ _. lengths_match _ _ _ _ eb) (λ _. leb-false _ _ ec)
+            (λ j lt b. label_fits j (lowest_none _ _ j el lt)) (λ j lt b. ltb-false _ _ (f.least j (in_row 44 j i b)))
+            q.number q.values applies before;
+      }
+  judged false false false None None ea eb ec el ee = λ q applies.
+      clear 45 0 (λ lt. absurd (omega (arith, lt))) (λ _. count_bounds _ _ _ _ ea) (λ _. lengths_match _ _ _ _ eb) (λ _. leb-false _ _ ec)
+      (λ j lt b. label_fits j (lowest_none _ _ j el lt)) (λ j lt b. ltb-false _ _ (lowest_none _ _ j ee lt))
+      q.number q.values applies (inl (number_few q.number q.values applies))
 
-  one_first : (f g : TableRefusal) → First t f → First t g → f ≡ g
-  one_first f g a b =
-      ⊎_elim (λ (r : rank f ≡ rank g).
-      ⊎_elim (λ (p : place f ≡ place g). same_refusal f g r p)
-      (λ ne. ⊎_elim (λ (lt : place f < place g). absurd (b.none_before f (inr (r, lt)) a.applies))
-      (λ (gt : place g < place f). absurd (a.none_before g (inr (sym r, gt)) b.applies)) (lt_or_gt _ _ ne))
-      (cases_eq (place f) (place g)))
-      (λ ne. ⊎_elim (λ (lt : rank f < rank g). absurd (b.none_before f (inl lt) a.applies))
-      (λ (gt : rank g < rank f). absurd (a.none_before g (inl gt) b.applies)) (lt_or_gt _ _ ne))
-      (cases_eq (rank f) (rank g))
+  -- a refusal that applies carries a value from the number 43 on
+  carried : (j : ℕ) (vs : List ℕ) → Applies n j vs → vs ≡ cond (ltb j 43) [] (slice_index vs 0 ∷ [])
+  carried _ _ (counts out) = refl
+  carried _ _ (lengths out) = refl
+  carried _ _ (start out) = refl
+  carried _ _ (label m lt out) = refl
+  carried _ _ (entry e lt out) = refl
 
-  one_judgement : (r other : Result Unit TableRefusal) → Judged t r → Judged t other → other ≡ r
+  same_refusal : (q r : Refused) → Applies n q.number q.values → Applies n r.number r.values → q.number ≡ r.number
+      → slice_index q.values 0 ≡ slice_index r.values 0 → q ≡ r
+  same_refusal q r a b en ev =
+      let values : q.values ≡ r.values
+      = carried q.number q.values a
+      ∙ (ap (λ (j : ℕ). cond (ltb j 43) [] (slice_index q.values 0 ∷ [])) en
+      ∙ (ap (λ (v : ℕ). cond (ltb r.number 43) [] (v ∷ [])) ev ∙ sym (carried r.number r.values b))) in
+      λ i. record { number = en i; values = values i }
+
+  one_first : (q r : Refused) → IsFirst n q → IsFirst n r → q ≡ r
+  one_first q r a b =
+      ⊎_elim (λ (en : q.number ≡ r.number).
+      ⊎_elim (λ (ev : slice_index q.values 0 ≡ slice_index r.values 0). same_refusal q r a.applies b.applies en ev)
+      (λ (lt-gt : (slice_index q.values 0 < slice_index r.values 0) ⊎ (slice_index r.values 0 < slice_index q.values 0)).
+      ⊎_elim (λ (lt : slice_index q.values 0 < slice_index r.values 0). absurd (b.none_before q (inr (en, lt)) a.applies))
+      (λ (gt : slice_index r.values 0 < slice_index q.values 0). absurd (a.none_before r (inr (sym en, gt)) b.applies)) lt-gt)
+      (cases_order (slice_index q.values 0) (slice_index r.values 0)))
+      (λ (lt-gt : (q.number < r.number) ⊎ (r.number < q.number)).
+      ⊎_elim (λ (lt : q.number < r.number). absurd (b.none_before q (inl lt) a.applies))
+      (λ (gt : r.number < q.number). absurd (a.none_before r (inl gt) b.applies)) lt-gt)
+      (cases_order q.number r.number)
+
+  one_judgement : (answer other : Result Unit Refused) → IsJudged n answer → IsJudged n other → other ≡ answer
   one_judgement (Ok u) (Ok v) a b = refl
-  one_judgement (Ok u) (Err g) a b = absurd (a g b.applies)
-  one_judgement (Err f) (Ok u) a b = absurd (b f a.applies)
-  one_judgement (Err f) (Err g) a b = ap Err (one_first g f b a)
+  one_judgement (Ok u) (Err r) a b = absurd (a r b.applies)
+  one_judgement (Err q) (Ok u) a b = absurd (b q a.applies)
+  one_judgement (Err q) (Err r) a b = ap Err (one_first r q b a)
 
-  pub answer_lawful : (r : Result Unit TableRefusal) → numbered table_refusal_values r ≡ fill_answer t → Lawful t r
+  pub answered : (answer : Result Unit Refused) → answer ≡ fill_answer (table_of n) → AnsweredByTheTable n answer
   unfolding refusal
-  answer_lawful r answer =
-      let a : Bool = counts_out t.states t.moves t.objects t.rights in
-      let b : Bool = lengths_out t.states t.moves (length t.labels) (length t.entries) in
-      let c : Bool = leb t.states t.start in
-      let l : Option ℕ = lowest (label_out t.objects t.rights t.labels) t.moves in
-      let e : Option ℕ = lowest (entry_out t.states t.entries) (length t.entries) in
-      let same : r ≡ decided a b c l e
-      = sym (back_numbered r) ∙ (ap (result_map_both (λ u. u) back) (answer ∙ sym (decided_numbered a b c l e)) ∙ back_numbered (decided a b c l e)) in
-      let j : Judged t r = subst (Judged t) (sym same) (judged a b c l e refl refl refl refl refl) in
-      record { judged = j; alone = λ other o. one_judgement r other j o }
+  answered answer e =
+      let j : IsJudged n answer = subst (IsJudged n) (sym e) (judged _ _ _ _ _ refl refl refl refl refl) in
+      record { judged = j; alone = λ other o. one_judgement answer other j o }

@@ -1,3 +1,4 @@
 pub mod Listed
 pub mod LocksHeld
+pub mod LockCall
 pub mod Judging

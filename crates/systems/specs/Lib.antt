@@ -1,6 +1,7 @@
 pub mod Refusals
 pub mod Tables
 pub mod TableNumbers
+pub mod TableMeaning
 pub mod TableRefusing
 pub mod TableLaws
 pub mod Locks

@@ -1,9 +1,7 @@
--- When numbers are refused, and with which refusal, in the terms of the table of refusals: a condition for each.
-use Rattle.std.specs.Prelude.{◌≡◌, ℕ, ◌*◌, ◌<◌, ◌≤◌, false, ◌⊎◌, length, Ok, Err, Result, slice_index}
-use Rattle.protection.specs.Permissions.{within}
-use Rattle.systems.specs.declared.refusals.TableRefusal.{TableRefusal}
-use Rattle.systems.specs.declared.refusals.TableRefusal.TheVariants.{Counts, Lengths, Start, Label, Entry}
-use Rattle.systems.specs.Tables.{Table, permission_at}
+-- When numbers are refused, and how, in the terms of the table of refusals: a condition for each.
+use Rattle.std.specs.Prelude.{◌≡◌, ℕ, ◌+◌, ◌*◌, ◌<◌, ◌≤◌, ◌⊎◌, List, [], ◌∷◌, length, Ok, Err, Result, slice_index}
+use Rattle.protection.specs.Refusals.{Refused}
+use Rattle.systems.specs.declared.numbers.Numbers.{Numbers}
 
 -- the bounds of states, moves, objects and rights
 pub record CountBounds (n m o r : ℕ) : Type 0 where
@@ -18,43 +16,40 @@ pub record LengthsMatch (n m ls es : ℕ) : Type 0 where
   pub labels_match : ls ≡ 3 * m
   pub entries_match : es ≡ n * m
 
--- the condition of each refusal
-abbrev pub Applies : Table → TableRefusal → Type 0
-Applies t Counts = CountBounds t.states t.moves t.objects t.rights → ⊥
-Applies t Lengths = LengthsMatch t.states t.moves (length t.labels) (length t.entries) → ⊥
-Applies t Start = t.states ≤ t.start
-Applies t (Label m) = (m < t.moves) × (within t.objects t.rights (permission_at t.labels m) ≡ false)
-Applies t (Entry i) = (i < length t.entries) × (t.states < slice_index t.entries i)
+-- the label of the move m is within the counts
+pub record LabelFits (n : Numbers) (m : ℕ) : Type 0 where
+  pub subject_below : slice_index n.labels.now (3 * m) < n.objects
+  pub object_below : slice_index n.labels.now (3 * m + 1) < n.objects
+  pub right_below : slice_index n.labels.now (3 * m + 2) < n.rights
 
--- their order: by the number, and then by the move or the place
-abbrev pub rank : TableRefusal → ℕ
-rank Counts = 0
-rank Lengths = 1
-rank Start = 2
-rank (Label m) = 3
-rank (Entry i) = 4
+-- a refusal applies, by its number and the values that it carries: the move of a label, or
+-- the index of an entry
+pub data Applies (n : Numbers) : ℕ → List ℕ → Type 0 where
+  counts : ¬ CountBounds n.states n.moves n.objects n.rights → Applies n 40 []
+  lengths : ¬ LengthsMatch n.states n.moves (length n.labels.now) (length n.entries.now)
+      → Applies n 41 []
+  start : n.states ≤ n.start → Applies n 42 []
+  label : (m : ℕ) → m < n.moves → ¬ LabelFits n m → Applies n 43 (m ∷ [])
+  entry : (i : ℕ) → i < length n.entries.now → n.states < slice_index n.entries.now i
+      → Applies n 44 (i ∷ [])
 
-abbrev pub place : TableRefusal → ℕ
-place Counts = 0
-place Lengths = 0
-place Start = 0
-place (Label m) = m
-place (Entry i) = i
-
-abbrev pub Before : TableRefusal → TableRefusal → Type 0
-Before f g = (rank f < rank g) ⊎ ((rank f ≡ rank g) × (place f < place g))
+-- their order: by the number, and then by the value
+abbrev pub IsBefore : Refused → Refused → Type 0
+IsBefore q r =
+    (q.number < r.number)
+    ⊎ ((q.number ≡ r.number) × (slice_index q.values 0 < slice_index r.values 0))
 
 -- it applies, and none before it does
-pub record First (t : Table) (f : TableRefusal) : Type 0 where
-  pub applies : Applies t f
-  pub none_before : (g : TableRefusal) → Before g f → Applies t g → ⊥
+pub record IsFirst (n : Numbers) (r : Refused) : Type 0 where
+  pub applies : Applies n r.number r.values
+  pub none_before : (q : Refused) → IsBefore q r → ¬ Applies n q.number q.values
 
 -- numbers are accepted if no refusal applies, and refused with the first that does
-abbrev pub Judged : Table → Result Unit TableRefusal → Type 0
-Judged t (Ok _) = (f : TableRefusal) → Applies t f → ⊥
-Judged t (Err f) = First t f
+abbrev pub IsJudged : Numbers → Result Unit Refused → Type 0
+IsJudged n (Ok _) = (q : Refused) → ¬ Applies n q.number q.values
+IsJudged n (Err r) = IsFirst n r
 
--- numbers are judged so, and there is no other judgement
-pub record Lawful (t : Table) (answer : Result Unit TableRefusal) : Type 0 where
-  pub judged : Judged t answer
-  pub alone : (other : Result Unit TableRefusal) → Judged t other → other ≡ answer
+-- the answer is the one that the table of refusals gives, and it gives no other
+pub record AnsweredByTheTable (n : Numbers) (answer : Result Unit Refused) : Type 0 where
+  pub judged : IsJudged n answer
+  pub alone : (other : Result Unit Refused) → IsJudged n other → other ≡ answer

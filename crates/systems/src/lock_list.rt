@@ -1,11 +1,13 @@
 // The lock list as a protection system, and the call that adds to it.
-ghost use Rattle.std.specs.Prelude.{◌≡◌, true, [], is_ok};
+ghost use Rattle.std.specs.Prelude.{◌≡◌, []};
+ghost use Rattle.protection.specs.Meaning.{meaning};
 ghost use Rattle.protection.specs.Refusals.{numbered};
+ghost use Rattle.protection.specs.Systems.{system_of};
 ghost use Rattle.systems.specs.Refusals.{lock_refusal_values};
 ghost use Rattle.systems.specs.Locks.{is_listed, is_locked, locked_walk, lock_answer, locks_after};
 ghost use Rattle.systems.specs.LockLists.{locks_of};
 ghost use Rattle.systems.specs.LockLaws.{locked_bounds};
-ghost use Rattle.systems.specs.LockPromise.{LocksHold};
+ghost use Rattle.systems.specs.LockPromise.{LacksLockedSteps, ListsThePermission, LocksHold};
 
 use super::lock::LockList;
 use super::refusals::LockRefusal;
@@ -18,6 +20,9 @@ impl<S: System> LockList<S> {
     pub fn new(system: S) -> Self
         ensures locks { locks_of result ≡ [] }
         ensures system { result.system ≡ system }
+        ensures nothing_is_locked { LacksLockedSteps (meaning S.Walk S.System.own system) []
+            (system_of (⟦<LockList<S> as Walk>⟧.model result)
+            (⟦<LockList<S> as System>⟧.labels result)) }
     {
         let unused = Permission {
             subject: 0,
@@ -53,15 +58,19 @@ impl<S: System> LockList<S> {
         Ok(self.listed().len() as u32)
     }
 
-    // Locks a permission, unless it is locked already, and answers how many are. `promise`: no history of a
+    // Locks a permission, unless it is locked already, and answers how many are. `locks_hold`: no history of a
     // monitor over the list contains a grant of what is locked, or a yes to it; locks open nothing; and moves
     // whose label is not locked keep their steps.
     pub fn lock(&mut self, p: Permission) -> Result<u32, LockRefusal>
         ensures answer { numbered lock_refusal_values result ≡ lock_answer (S.System.labels self.old.system) (locks_of self.old) p }
         ensures after { locks_of self.new ≡ locks_after (S.System.labels self.old.system) (locks_of self.old) p }
         ensures system { self.new.system ≡ self.old.system }
-        ensures listed { is_ok result ≡ true → is_listed (locks_of self.new) p ≡ true }
-        ensures promise { LocksHold (S.Walk.model self.new.system) (S.System.labels self.new.system) (locks_of self.new) }
+        ensures lists_the_permission { let below = meaning S.Walk S.System.own self.old.system in
+            ListsThePermission below (locks_of self.old) p
+            (numbered lock_refusal_values result) (locks_of self.new) }
+        ensures locks_hold { LocksHold (meaning S.Walk S.System.own self.new.system) (locks_of self.new)
+            (system_of (⟦<LockList<S> as Walk>⟧.model self.new)
+            (⟦<LockList<S> as System>⟧.labels self.new)) }
     {
         self.list(p)
     }

@@ -22,7 +22,9 @@ pub enum TableRefusal {
 impl Numbered for TableRefusal {
     ghost values = { table_refusal_values };
 
-    fn number(self) -> u32 {
+    fn number(self) -> u32
+        ensures { result ≡ (table_refusal_values self).number }
+    {
         match self {
             TableRefusal::Counts => 40,
             TableRefusal::Lengths => 41,
@@ -52,7 +54,9 @@ impl From<bounded::Full> for LockRefusal {
 impl Numbered for LockRefusal {
     ghost values = { lock_refusal_values };
 
-    fn number(self) -> u32 {
+    fn number(self) -> u32
+        ensures { result ≡ (lock_refusal_values self).number }
+    {
         match self {
             LockRefusal::OutOfCounts => 51,
             LockRefusal::Full => 50,

@@ -1,10 +1,12 @@
 // The table as a protection system, and the call that fills it.
-ghost use Rattle.std.specs.Prelude.{◌≡◌};
+ghost use Rattle.std.specs.Prelude.{◌≡◌, OnOk, OnErr};
 ghost use Rattle.protection.specs.Refusals.{numbered};
+ghost use Rattle.protection.specs.Systems.{system_of};
 ghost use Rattle.systems.specs.Refusals.{table_refusal_values};
 ghost use Rattle.systems.specs.Tables.{bare, next_of, table_walk, table_labels, fill_answer, filled};
 ghost use Rattle.systems.specs.TableNumbers.{table_of};
-ghost use Rattle.systems.specs.TableRefusing.{Lawful};
+ghost use Rattle.systems.specs.TableMeaning.{MeansItsNumbers, IsBare};
+ghost use Rattle.systems.specs.TableRefusing.{AnsweredByTheTable};
 ghost use Rattle.systems.specs.TableLaws.{table_bounds, table_counts};
 
 use super::numbers::Numbers;
@@ -16,7 +18,12 @@ use walk::Walk;
 impl<'a> TableSystem<'a> {
     // A bare one: one state, and no move, object or right.
     pub fn new() -> Self
-        ensures { table_of result.numbers ≡ bare }
+        ensures numbers { table_of result.numbers ≡ bare }
+        ensures is_bare { IsBare (system_of (⟦<TableSystem<'a> as Walk>⟧.model result)
+            (⟦<TableSystem<'a> as System>⟧.labels result)) }
+        ensures means_its_numbers { MeansItsNumbers result.numbers
+            (system_of (⟦<TableSystem<'a> as Walk>⟧.model result)
+            (⟦<TableSystem<'a> as System>⟧.labels result)) }
     {
         TableSystem {
             numbers: Numbers {
@@ -31,12 +38,17 @@ impl<'a> TableSystem<'a> {
         }
     }
 
-    // Takes the numbers in place of those it held, or refuses them and stays as it was. `lawful`: the answer is
-    // the one that the table of refusals gives, and the table gives no other.
+    // Takes the numbers in place of those it held, or refuses them, as the table of refusals says, and stays as
+    // it was. It means the numbers that it then holds.
     pub fn fill(&mut self, numbers: Numbers<'a>) -> Result<(), TableRefusal>
         ensures answer { numbered table_refusal_values result ≡ fill_answer (table_of numbers.entry) }
         ensures after { table_of self.new.numbers ≡ filled (table_of self.old.numbers) (table_of numbers.entry) }
-        ensures lawful { Lawful (table_of numbers.entry) result }
+        ensures answered_by_the_table { AnsweredByTheTable numbers.entry (numbered table_refusal_values result) }
+        ensures accepted_is_held { OnOk result (self.new.numbers ≡ numbers.entry) }
+        ensures refused_stays { OnErr result (self.new ≡ self.old) }
+        ensures means_its_numbers { MeansItsNumbers self.new.numbers
+            (system_of (⟦<TableSystem<'a> as Walk>⟧.model self.new)
+            (⟦<TableSystem<'a> as System>⟧.labels self.new)) }
     {
         numbers.check()?;
         self.numbers = numbers;

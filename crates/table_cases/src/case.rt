@@ -1,9 +1,11 @@
-// A case, line by line: a table's numbers, locks, and what is asked of the system.
+// A case, line by line: the numbers with which a table is filled, once or more, locks, and what is asked of
+// the system.
 ghost use Rattle.std.specs.Prelude.{◌≡◌, slice_index};
 
 use anyhow::anyhow;
 use protection::Permission;
 use std::alloc::Global;
+use systems::Numbers;
 
 // An analysis, with tables of these lengths.
 #[derive(Clone, Copy)]
@@ -25,11 +27,17 @@ pub(crate) enum Question {
     Restart,
 }
 
+// The numbers of one filling.
+#[derive(Drop)]
+pub(crate) struct Filling {
+    counts: Vec<u32>,
+    labels: Vec<u32>,
+    entries: Vec<u32>,
+}
+
 #[derive(Drop)]
 pub(crate) struct Case {
-    pub(crate) counts: Vec<u32>,
-    pub(crate) labels: Vec<u32>,
-    pub(crate) entries: Vec<u32>,
+    pub(crate) fillings: Vec<Filling>,
     pub(crate) inner: Vec<Permission>,
     pub(crate) outer: Vec<Permission>,
     pub(crate) questions: Vec<Question>,
@@ -74,24 +82,53 @@ fn asked(word: &str, numbers: &[u32]) -> Option<Question> {
     }
 }
 
+impl Filling {
+    pub(crate) fn numbers(&self) -> Numbers<'_> {
+        let counts = self.counts.as_slice();
+        Numbers {
+            states: number_at(counts, 0),
+            moves: number_at(counts, 1),
+            objects: number_at(counts, 2),
+            rights: number_at(counts, 3),
+            start: number_at(counts, 4),
+            labels: self.labels.as_slice(),
+            entries: self.entries.as_slice(),
+        }
+    }
+}
+
 impl Case {
     pub(crate) fn new(heap: Global) -> Self {
         Case {
-            counts: Vec::new(heap),
-            labels: Vec::new(heap),
-            entries: Vec::new(heap),
+            fillings: Vec::new(heap),
             inner: Vec::new(heap),
             outer: Vec::new(heap),
             questions: Vec::new(heap),
         }
     }
 
+    // The filling that the last line `table` began.
+    fn last_filling(&mut self) -> anyhow::Result<&mut Filling> {
+        self.fillings
+            .last_mut()
+            .ok_or_else(|| anyhow!("labels or entries before any table"))
+    }
+
     // Takes a line, by its first word and its numbers.
-    pub(crate) fn take(&mut self, word: &str, numbers: Vec<u32>) -> anyhow::Result<()> {
+    pub(crate) fn take(
+        &mut self,
+        heap: Global,
+        word: &str,
+        numbers: Vec<u32>,
+    ) -> anyhow::Result<()> {
         match word {
-            "table" => self.counts = numbers,
-            "labels" => self.labels = numbers,
-            "entries" => self.entries = numbers,
+            "table" => self.fillings.push(Filling {
+                counts: numbers,
+                labels: Vec::new(heap),
+                entries: Vec::new(heap),
+            })?,
+            "labels" => self.last_filling()?.labels = numbers,
+            "entries" => self.last_filling()?.entries = numbers,
             "inner" => self.inner.push(permission(numbers.as_slice()))?,
             "outer" => self.outer.push(permission(numbers.as_slice()))?,
             _ => {

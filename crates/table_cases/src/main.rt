@@ -34,5 +34,5 @@ fn take_line(rt: &HostRuntime, case: &mut Case, line: &str) -> anyhow::Result<()
     let numbers = parts
         .map(|part| -> anyhow::Result<u32> { Ok(part.parse::<u32>()?) })
         .try_collect(rt.alloc())?;
-    case.take(word, numbers)
+    case.take(rt.alloc(), word, numbers)
 }

@@ -1,27 +1,23 @@
 // Runs a case: fills the table, locks, and asks.
-use super::case::{Case, Query, Question, number_at};
+use super::case::{Case, Query, Question};
 use super::show::*;
 use monitor::{Monitor, confirm};
 use protection::{Permission, System, Verdict};
 use std::alloc::{AllocError, Global};
 use std::io;
-use systems::{LockList, Numbers, TableSystem};
+use systems::{LockList, TableSystem};
 use walk::Found;
 
-// The system is a table under two lock lists.
+// The system is a table under two lock lists. Where the table is filled again, what is asked is asked of it
+// before that, too.
 pub(crate) fn run_case(rt: &HostRuntime, case: &Case) -> anyhow::Result<()> {
-    let counts = case.counts.as_slice();
     let mut table = TableSystem::new();
-    let answer = table.fill(Numbers {
-        states: number_at(counts, 0),
-        moves: number_at(counts, 1),
-        objects: number_at(counts, 2),
-        rights: number_at(counts, 3),
-        start: number_at(counts, 4),
-        labels: case.labels.as_slice(),
-        entries: case.entries.as_slice(),
-    });
-    show_filled(rt, answer)?;
+    for (i, filling) in case.fillings.as_slice().iter().enumerate() {
+        if i > 0 {
+            ask_all(rt, &table, case.questions.as_slice())?;
+        }
+        show_filled(rt, table.fill(filling.numbers()))?;
+    }
     let mut inner = LockList::new(table);
     lock_all(rt, &mut inner, case.inner.as_slice())?;
     let mut outer = LockList::new(inner);

@@ -34,7 +34,7 @@ returns-in_err-enforce g c =
       answer = answer;
       state = state;
       system = h.system ∙ c.loop-mv.invariant.0;
-      law = laws.replay_law system s moves (numbered denial_values c.from_residual.result) c.enforce.new.self.state answer state;
+      makes_moves_in_turn = laws.replay_law system s moves (numbered denial_values c.from_residual.result) c.enforce.new.self.state answer state;
     }
 
 pub loop-mv-preserved : goal.loop-mv-preserved
@@ -65,5 +65,5 @@ returns g c =
       answer = done.0;
       state = done.1;
       system = c.loop-mv.invariant.0;
-      law = laws.replay_law system s moves (Ok tt) c.loop-mv.self.state done.0 done.1;
+      makes_moves_in_turn = laws.replay_law system s moves (Ok tt) c.loop-mv.self.state done.0 done.1;
     }
