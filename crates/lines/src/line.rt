@@ -1,9 +1,11 @@
-// A line whose words have the forms that its kind asks.
+// A line whose words have the forms that its kind asks; and the check of a text before its lines.
 ghost use Rattle.std.specs.Prelude.{◌≡◌};
 ghost use Rattle.std.specs.Option.{option_map};
-ghost use Rattle.words.specs.Outcomes.{map_ok};
+ghost use Rattle.words.specs.Outcomes.{carried, map_ok};
 ghost use Rattle.words.specs.Positions.{line_of, word_of};
 ghost use Rattle.words.specs.Cuts.{line_words};
+ghost use Rattle.words.specs.Plain.{short_text};
+ghost use Rattle.lines.specs.declared.fault.LineFault.TheVariants.{OfWords};
 ghost use Rattle.lines.specs.Lines.{line_kind, right_count, form_check, right_forms, formed_as, formed_line};
 ghost use Rattle.lines.specs.Statements.{stated};
 
@@ -11,9 +13,17 @@ use crate::fault::LineFault;
 use crate::order::{count_allowed, in_order, kind_in};
 use crate::statement::Statement;
 use scheme::kind::Kind;
-use words::checks::check_line;
+use words::checks::{self, check_line};
 use words::position::{Line, Word};
 use words::token::Token;
+
+// A text is not too long.
+pub fn check_text(text: &[u8]) -> Result<(), LineFault>
+    ensures { result ≡ carried OfWords (short_text text.now) }
+{
+    checks::check_text(text)?;
+    Ok(())
+}
 
 // The kind of a line below one of kind `last`, or none where the line has no word.
 fn line_kind(line: Line, last: Option<Kind>) -> Result<Option<Kind>, LineFault>

@@ -23,7 +23,7 @@ use Rattle.words.specs.Tokens.{Form, name, number, term, operator, other, operat
 use Rattle.words.proofs.Lengths.{name_is}
 use Rattle.lines.specs.Roles.{a_name, a_number}
 use Rattle.text.specs.Declaring as d
-use Rattle.text.specs.Writing.{name_at, NamesFit, OperandFits, PredicateFits, ActionFits, PolicyFits}
+use Rattle.text.specs.Writing.{name_at, IsName, NamesFit, OperandFits, PredicateFits, ActionFits, PolicyFits}
 
 -- one name more
 
@@ -62,8 +62,8 @@ module _ (ns : List (List ℕ)) (n : List ℕ) (fit : NamesFit ns) (new : is_som
       (cases_lt j (length ns)))
       (cases_lt i (length ns))
 
-  pub names_push : is_name n ≡ true → NamesFit (ns ++ n ∷ [])
-  names_push named = record { each = All-push (λ x. is_name x ≡ true) ns n fit.each named; distinct = all_distinct }
+  pub names_push : IsName n → NamesFit (ns ++ n ∷ [])
+  names_push named = record { each = All-push IsName ns n fit.each named; distinct = all_distinct }
 
 -- names of one kind: no more than the most, and each its own
 pub record Few (limit : ℕ) (ns : List (List ℕ)) : Type 0 where
@@ -71,7 +71,7 @@ pub record Few (limit : ℕ) (ns : List (List ℕ)) : Type 0 where
   pub fit : NamesFit ns
 
 pub one_more : {X : Type 0} (name_of : X → List ℕ) (limit : ℕ) (xs : List X) (x : X) → ltb (length xs) limit ≡ true
-    → (is_name (name_of x) ≡ true) × (is_some (index_of (name_of x) (map name_of xs)) ≡ false) → Few limit (map name_of xs) → Few limit (map name_of (xs ++ x ∷ []))
+    → IsName (name_of x) × (is_some (index_of (name_of x) (map name_of xs)) ≡ false) → Few limit (map name_of xs) → Few limit (map name_of (xs ++ x ∷ []))
 one_more name_of limit xs x room new h =
     let some = ltb-true (length xs) limit room in
     let long = length-map xs name_of in
@@ -158,7 +158,10 @@ number_is false w n None (Some t) s e = cc
 number_is false w n None None (Some x) e = cc
 number_is false w n None None None e = cc
 
-byte_number : (w : List ℕ) (n : ℕ) → number_in w ≡ Some n → n ≤ 255
+pub number_read : (w : List ℕ) (n : ℕ) → form_of w ≡ number n → number_in w ≡ Some n
+number_read w n is = number_is (is_name w) w n (number_in w) _ _ is
+
+pub byte_number : (w : List ℕ) (n : ℕ) → number_in w ≡ Some n → n ≤ 255
 byte_number [] n e = cc
 byte_number (a ∷ []) n e = grind (arith, nat_tests)
 byte_number (a ∷ b ∷ []) n e = grind (arith, nat_tests)
@@ -166,7 +169,7 @@ byte_number (a ∷ b ∷ c ∷ []) n e = grind (arith, nat_tests)
 byte_number (a ∷ b ∷ c ∷ x ∷ xs) n e = cc
 
 pub number_small : (w : PlainWord) (n : ℕ) → form_of w.bytes ≡ number n → n ≤ 255
-number_small w n is = byte_number w.bytes n (number_is (is_name w.bytes) w.bytes n (number_in w.bytes) _ _ is)
+number_small w n is = byte_number w.bytes n (number_read w.bytes n is)
 
 pub amount_small : (w : PlainWord) (f : Form) → form_of w.bytes ≡ f → a_number f ≡ true → d.number_in w ≤ 255
 amount_small w (number n) is h = rw is (number_small w n is)

@@ -76,26 +76,27 @@ module _ {X E : Type 0} (check : ℕ → X → Result (Unit {0}) E) (d : X) wher
       ap (λ n. check n (get_or xs j d)) at ∙ passed (i + 1) xs (passed_first (check i x) _ h).1 j (omega arith)
 
   -- a row of the table, whose condition is that the check of the item at an index refuses
-  module _ (xs : List X) (Condition : ℕ → E → Type 0)
-      (refuses : (i : ℕ) (e : E) → Condition i e → (i < length xs) × (check i (get_or xs i d) ≡ Err e))
-      (means : (i : ℕ) (e : E) → i < length xs → check i (get_or xs i d) ≡ Err e → Condition i e) where
-    pub row_clear : in_turn check 0 xs ≡ Ok tt → (i : ℕ) (e : E) → Condition i e → ⊥
-    row_clear h i e a =
-        let at = refuses i e a in
-        both (check i (get_or xs i d)) tt e (ap (λ n. check n (get_or xs i d)) (sym (zero-add i)) ∙ passed 0 xs h i at.0) at.1
+  module _ (xs : List X) (Condition : ℕ → Type 0)
+      (refuses : (i : ℕ) → Condition i → (i < length xs) × ((e : E) × (check i (get_or xs i d) ≡ Err e))) where
+    pub row_clear : in_turn check 0 xs ≡ Ok tt → (i : ℕ) → ¬ (Condition i)
+    row_clear h i a =
+        let at = refuses i a in
+        both (check i (get_or xs i d)) tt at.1.0 (ap (λ n. check n (get_or xs i d)) (sym (zero-add i)) ∙ passed 0 xs h i at.0) at.1.1
 
-    pub row_first : (e : E) → in_turn check 0 xs ≡ Err e → (i : ℕ) × (Condition i e × ((j : ℕ) (f : E) → Condition j f → i ≤ j))
+    -- the first refusal is told of the leftmost index
+    pub row_first : (Told : ℕ → E → Type 0) → ((i : ℕ) (e : E) → i < length xs → check i (get_or xs i d) ≡ Err e → Told i e)
+        → (e : E) → in_turn check 0 xs ≡ Err e → (i : ℕ) × (Told i e × ((j : ℕ) → Condition j → i ≤ j))
     unfolding Stop
-    row_first e h =
+    row_first Told tells e h =
         let s = stopped 0 xs e h in
         let i = s.0 in (
           i,
           (
-            means i e s.1.0 (ap (λ n. check n (get_or xs i d)) (sym (zero-add i)) ∙ s.1.1),
-            λ j f a. ⊎_elim
+            tells i e s.1.0 (ap (λ n. check n (get_or xs i d)) (sym (zero-add i)) ∙ s.1.1),
+            λ j a. ⊎_elim
                 (λ (less : j < i).
-                let at = refuses j f a in
-                absurd (both (check j (get_or xs j d)) tt f (ap (λ n. check n (get_or xs j d)) (sym (zero-add j)) ∙ s.1.2 j less) at.1))
+                let at = refuses j a in
+                absurd (both (check j (get_or xs j d)) tt at.1.0 (ap (λ n. check n (get_or xs j d)) (sym (zero-add j)) ∙ s.1.2 j less) at.1.1))
                 (λ (more : i ≤ j). more)
                 (cases_lt j i),
           ),

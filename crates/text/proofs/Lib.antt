@@ -14,3 +14,9 @@ mod WritingForms
 mod WritingLines
 mod WritingClauses
 pub mod WritingWhole
+mod Named
+mod Steps
+mod WordingForms
+mod WordingLines
+mod Wording
+mod Exactly

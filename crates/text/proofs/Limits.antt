@@ -17,26 +17,25 @@ use Rattle.scheme.specs.declared.entries.Query.{Query}
 use Rattle.scheme.specs.Names.{index_of}
 use Rattle.scheme.specs.Models.{AttributeModel, ObjectModel, PolicyModel, SchemeModel, attribute_names, object_names, policy_names, names_of, has_room, last_room, last_filled, with_policies, opened as opened_policy, room_for}
 use Rattle.scheme.specs.Counts.{state_count}
-use Rattle.scheme.specs.WellFormed.{well_formed}
+use Rattle.scheme.specs.Sizes.{sizes_of}
+use Rattle.scheme.specs.WellFormed.{objects_fit, rights_fit, well_formed}
 use Rattle.protection.specs.Permissions.{within}
 use Rattle.record.specs.Systems.{permission_asked}
-use Rattle.words.specs.Positions.{PlainLine, PlainWord, spot_of, word_in}
+use Rattle.words.specs.Positions.{PlainLine, PlainWord, word_in}
 use Rattle.words.specs.Cuts.{words_of, text_lines}
-use Rattle.words.specs.Forms.{is_name}
 use Rattle.words.specs.Tokens.{Form, name, number, term, operator, other, form_of}
 use Rattle.lines.specs.declared.role.Role.TheVariants as role
 use Rattle.lines.specs.declared.role.Instead.{Instead}
 use Rattle.lines.specs.declared.role.Instead.TheVariants.{Nothing, Number, NumberOrDash}
 use Rattle.lines.specs.declared.role.Key.TheVariants as test
-use Rattle.lines.specs.declared.fault.LineFault.TheVariants as line
 use Rattle.lines.specs.Roles.{role_at, a_number, fits}
-use Rattle.text.specs.declared.fault.SchemeFault.TheVariants.{OfLine, Used, Undefined, Range, Most}
 use Rattle.text.specs.Declaring as d
 use Rattle.text.specs.Reading.{Progress, start, complete, reading}
-use Rattle.text.specs.Refusing.{forms, most, names, word_at, Opens, Faultless, below, first_kind, below_line, Passed}
-use Rattle.text.specs.Writing.{NamesFit, OperandFits, PredicateFits, ActionFits, PolicyFits, QueryFits, Writable}
+use Rattle.text.specs.Refusing.{forms, most, used, undefined, ranges, Opens, Faultless, below, first_kind, below_line, Passed}
+use Rattle.text.specs.Writing.{IsName, NamesFit, OperandFits, PredicateFits, ActionFits, PolicyFits, QueryFits, Writable}
 use Rattle.text.proofs.Sound.{queries_fit, index_below, opens_first, counted, passed_sound, start_sound}
-use Rattle.text.proofs.Whole.{reading_is_lawful, is_complete}
+use Rattle.text.proofs.Whole.{reading_as_the_table_says, is_complete}
+use Rattle.text.proofs.Named.{name_means, objects_mean, rights_mean, complete_means}
 use Rattle.text.proofs.Added.{names_push, Few, one_more, policy_more, ClauseFits, last_fits, filled_names, named, number_small, amount_small}
 
 -- what the lines so far declare is within the limits, apart from what `Sound` says
@@ -62,26 +61,26 @@ module _ (p : Progress) (l : PlainLine) (faultless : Faultless p l) (k : Kind) (
   few = length m.attributes
 
   room : room_for k m ≡ true
-  room = true_from_ne_false (room_for k m) (λ lacks. faultless most 0 (Most (spot_of (word_at l 0))) (refl, (k, (opened, lacks)), refl))
+  room = true_from_ne_false (room_for k m) (λ lacks. faultless most 0 (refl, (k, (opened, lacks))))
 
   module _ (i : ℕ) (behind : 0 < i) (inside : i < length ws) where
     abbrev w : PlainWord
     w = word_in ws i
 
     formed : fits (role_at k ws i) (form_of w.bytes) ≡ true
-    formed = true_from_ne_false (fits (role_at k ws i) (form_of w.bytes)) (λ lacks. faultless forms i (OfLine (line.Form (spot_of w))) (behind, inside, (k, (opened, lacks)), refl))
+    formed = true_from_ne_false (fits (role_at k ws i) (form_of w.bytes)) (λ lacks. faultless forms i (behind, inside, (k, (opened, lacks))))
 
     unused : role_at k ws i ≡ role.NewName → is_some (index_of w.bytes (names_of k m)) ≡ false
-    unused at = false_from_ne_true (is_some (index_of w.bytes (names_of k m))) (λ is. faultless names i (Used (spot_of w)) (behind, inside, (k, (opened, inl ((at, is), refl)))))
+    unused at = false_from_ne_true (is_some (index_of w.bytes (names_of k m))) (λ is. faultless used i (behind, inside, (k, (opened, (at, is)))))
 
-    new_name : role_at k ws i ≡ role.NewName → (is_name (d.name_in w) ≡ true) × (is_some (index_of (d.name_in w) (names_of k m)) ≡ false)
+    new_name : role_at k ws i ≡ role.NewName → IsName (d.name_in w) × (is_some (index_of (d.name_in w) (names_of k m)) ≡ false)
     new_name at =
         let told = named w (form_of w.bytes) refl (ap (λ r. fits r (form_of w.bytes)) (sym at) ∙ formed) in
-        (told.0, ap (λ b. is_some (index_of b (names_of k m))) told.1 ∙ unused at)
+        (name_means (d.name_in w) told.0, ap (λ b. is_some (index_of b (names_of k m))) told.1 ∙ unused at)
 
     module _ (o : Instead) (at : role_at k ws i ≡ role.Term o) where
       attributed : (q : Party) (a : List ℕ) → form_of w.bytes ≡ term q a → is_some (index_of a (attribute_names m)) ≡ true
-      attributed q a is = true_from_ne_false (is_some (index_of a (attribute_names m))) (λ lacks. faultless names i (Undefined (spot_of w)) (behind, inside, (k, (opened, inr (inl (inr (o, (q, (a, (at, is, lacks)))), refl))))))
+      attributed q a is = true_from_ne_false (is_some (index_of a (attribute_names m))) (λ lacks. faultless undefined i (behind, inside, (k, (opened, inr (o, (q, (a, (at, is, lacks))))))))
 
       found : (q : Party) (a : List ℕ) → form_of w.bytes ≡ term q a → d.number_among a (attribute_names m) < few
       found q a is =
@@ -131,7 +130,7 @@ module _ (p : Progress) (l : PlainLine) (faultless : Faultless p l) (k : Kind) (
     size_low at = low (form_of w.bytes) refl (ap (λ r. fits r (form_of w.bytes)) (sym at) ∙ formed)
       where
         refused : (n : ℕ) → form_of w.bytes ≡ number n → ((n < 1) ⊎ (250 < n)) → ⊥
-        refused n is lacks = faultless names i (Range (spot_of w)) (behind, inside, (k, (opened, inr (inr (inl (n, (at, is, lacks)), refl)))))
+        refused n is lacks = faultless ranges i (behind, inside, (k, (opened, inl (n, (at, is, lacks)))))
 
         low : (f : Form) → form_of w.bytes ≡ f → a_number f ≡ true → (1 ≤ d.number_in w) × (d.number_in w ≤ 250)
         low (number n) is h =
@@ -275,7 +274,7 @@ module _ (p : Progress) (l : PlainLine) (faultless : Faultless p l) where
     below_limited (Some k) is = kind_limited k (opens_first line_words k is)
 
 no_names : NamesFit []
-no_names = record { each = All-nil (λ n. is_name n ≡ true); distinct = λ i j within_i within_j same. absurd (omega arith) }
+no_names = record { each = All-nil IsName; distinct = λ i j within_i within_j same. absurd (omega arith) }
 
 start_limited : Limited start.scheme
 start_limited = record {
@@ -310,8 +309,12 @@ writable m whole few formed asked h =
     let named_attributes = length-map m.attributes (λ (a : AttributeModel). a.name) in
     let named_objects = length-map m.objects (λ (o : ObjectModel). o.name) in
     let named_policies = length-map m.policies (λ (p : PolicyModel). p.name) in
+    let some = complete_means m whole in
+    let fit = and_parts (objects_fit (sizes_of m) m.objects) (rights_fit (length m.rights) m.policies) formed in
     record {
-      some = whole;
+      some_attribute = some.0;
+      some_right = some.1;
+      some_object = some.2;
       few_attributes = omega arith;
       few_rights = h.rights.few;
       few_objects = omega arith;
@@ -322,7 +325,8 @@ writable m whole few formed asked h =
       objects_named = h.objects.fit;
       policies_named = h.policies.fit;
       sizes = h.sizes;
-      formed = formed;
+      values = objects_mean m.attributes m.objects fit.0;
+      policy_rights = rights_mean (length m.rights) m.policies fit.1;
       policies = h.clauses;
       queries = queries_listed (length m.objects) (length m.rights) m.queries asked;
       few_states = few;
@@ -331,7 +335,7 @@ writable m whole few formed asked h =
 -- every text that is read declares a scheme within the limits
 pub reading_writable : (text : List ℕ) (m : SchemeModel) → reading text ≡ Ok m → Writable m
 reading_writable text m h =
-    let a = (reading_is_lawful text (Ok m) (sym h)).judged in
+    let a = (reading_as_the_table_says text (Ok m) (sym h)).said in
     let q = a.all.scheme in
     let sound = passed_sound start (text_lines text) a.all a.passed start_sound in
     let limited = passed_limited start (text_lines text) a.all a.passed start_limited in

@@ -1,5 +1,5 @@
--- The row of names and values against the check of the words by their roles.
-use Rattle.std.proofs.Common.{◌≡◌, ℕ, ◌-◌, ◌<◌, Bool, true, false, cond, ◌&&◌, eqb, leb, ◌⊎◌, List, length, get_or, is_some, Ok, Err, sym, refl, ap, ◌∙◌, inl, inr, arith}
+-- The rows of names and values, which have one rank, against the check of the words by their roles.
+use Rattle.std.proofs.Common.{◌≡◌, ℕ, ◌-◌, ◌<◌, ◌≤◌, Bool, true, false, cond, ◌&&◌, eqb, leb, ◌⊎◌, List, length, get_or, is_some, Ok, Err, sym, refl, ap, ◌∙◌, subst, inl, inr, ⊎_elim, arith}
 use Rattle.std.proofs.lemmas.Bool.Decides.{nat_tests}
 use Rattle.std.proofs.lemmas.Bool.{ltb-false, le-ltb, eqb-false, ne_eqb}
 use Rattle.scheme.specs.declared.kind.Kind.{Kind}
@@ -11,13 +11,14 @@ use Rattle.words.specs.Tokens.{Form, name, number, term, operator, other, form_o
 use Rattle.lines.specs.declared.role.Role.{Role}
 use Rattle.lines.specs.declared.role.Role.TheVariants as role
 use Rattle.text.specs.declared.fault.SchemeFault.{SchemeFault}
-use Rattle.text.specs.declared.fault.SchemeFault.TheVariants.{Undefined, Range}
+use Rattle.text.specs.declared.fault.SchemeFault.TheVariants.{Used, Undefined, Range}
+use Rattle.text.specs.Faults.{scheme_report}
 use Rattle.lines.specs.Roles.{role_at}
 use Rattle.text.specs.Naming.{size_at, term_form_check, number_check, role_check, name_check, right_names}
 use Rattle.text.specs.Reading.{Progress}
-use Rattle.text.specs.Refusing.{names, Opens, Unknown, Unattributed, Oversized, Overvalued, Misnamed, Applies}
+use Rattle.text.specs.Refusing.{Row, bytes, lengths, kinds, counts, forms, most, used, undefined, ranges, rank, Opens, Taken, Unknown, Unattributed, Oversized, Overvalued, Applies}
 use Rattle.text.proofs.Checked.{ok_err, cond_refused, cond_refuses, cond_stopped, cond_stops, row_clear, row_first}
-use Rattle.text.proofs.Conditions.{Clear, Leftmost, only}
+use Rattle.text.proofs.Conditions.{Clear, Told, at_word, only}
 
 -- a number that is refused is not allowed
 number_refused : (allowed : ℕ → Bool) (w : PlainWord) (f : SchemeFault) (form : Form) → number_check allowed w form ≡ Err f → (n : ℕ) × ((form ≡ number n) × (allowed n ≡ false) × (f ≡ Range (spot_of w)))
@@ -29,6 +30,13 @@ number_refused allowed w f other h = absurd (ok_err tt f h)
 
 number_refuses : (allowed : ℕ → Bool) (w : PlainWord) (f : SchemeFault) (form : Form) (n : ℕ) → form ≡ number n → allowed n ≡ false → f ≡ Range (spot_of w) → number_check allowed w form ≡ Err f
 number_refuses allowed w f form n is lacks same = ap (number_check allowed w) is ∙ cond_refuses _ f (allowed n) lacks same
+
+-- a name or a value is wrong, each with its own fault
+abbrev Misnamed : SchemeModel → Kind → List PlainWord → ℕ → SchemeFault → Type 0
+Misnamed m k ws i f =
+    (Taken m k ws i × (f ≡ Used (spot_of (word_in ws i))))
+    ⊎ (((Unknown m k ws i ⊎ Unattributed m k ws i) × (f ≡ Undefined (spot_of (word_in ws i))))
+    ⊎ ((Oversized k ws i ⊎ Overvalued m k ws i) × (f ≡ Range (spot_of (word_in ws i)))))
 
 module _ (m : SchemeModel) (k : Kind) (ws : List PlainWord) (i : ℕ) (f : SchemeFault) where
   abbrev w : PlainWord
@@ -62,9 +70,9 @@ module _ (m : SchemeModel) (k : Kind) (ws : List PlainWord) (i : ℕ) (f : Schem
   size_refused n h = grind (arith, nat_tests)
 
   -- and what is wrong is refused
-  undefined : Unknown m k ws i ⊎ Unattributed m k ws i → f ≡ Undefined (spot_of w) → role_check m k i w (role_at k ws i) ≡ Err f
-  undefined (inl (of, (at, lacks))) same = checked (role.Known of) at (cond_refuses _ f (is_some (index_of w.bytes (names_of of m))) lacks same)
-  undefined (inr (o, (p, (a, (at, is, lacks))))) same = checked (role.Term o) at (ap (term_form_check m w) is ∙ cond_refuses _ f (is_some (index_of a (attribute_names m))) lacks same)
+  not_found : Unknown m k ws i ⊎ Unattributed m k ws i → f ≡ Undefined (spot_of w) → role_check m k i w (role_at k ws i) ≡ Err f
+  not_found (inl (of, (at, lacks))) same = checked (role.Known of) at (cond_refuses _ f (is_some (index_of w.bytes (names_of of m))) lacks same)
+  not_found (inr (o, (p, (a, (at, is, lacks))))) same = checked (role.Term o) at (ap (term_form_check m w) is ∙ cond_refuses _ f (is_some (index_of a (attribute_names m))) lacks same)
 
   out_of_range : Oversized k ws i ⊎ Overvalued m k ws i → f ≡ Range (spot_of w) → role_check m k i w (role_at k ws i) ≡ Err f
   out_of_range (inl (n, (at, is, lacks))) same = checked role.Size at (number_refuses _ w f (form_of w.bytes) n is (size_refused n lacks) same)
@@ -72,7 +80,7 @@ module _ (m : SchemeModel) (k : Kind) (ws : List PlainWord) (i : ℕ) (f : Schem
 
   refuses : Misnamed m k ws i f → role_check m k i w (role_at k ws i) ≡ Err f
   refuses (inl ((at, is), same)) = checked role.NewName at (cond_stops _ f (is_some (index_of w.bytes (names_of k m))) is same)
-  refuses (inr (inl (what, same))) = undefined what same
+  refuses (inr (inl (what, same))) = not_found what same
   refuses (inr (inr (what, same))) = out_of_range what same
 
   name_refused : name_check m k ws i w ≡ Err f → (0 < i) × Misnamed m k ws i f
@@ -85,28 +93,106 @@ module _ (m : SchemeModel) (k : Kind) (ws : List PlainWord) (i : ℕ) (f : Schem
   name_refuses : 0 < i → Misnamed m k ws i f → name_check m k ws i w ≡ Err f
   name_refuses some what = ap (λ b. cond b (Ok tt) (role_check m k i w (role_at k ws i))) (ne_eqb i 0 (λ z. omega arith)) ∙ refuses what
 
+-- the row of a word that is wrong, by its role
+abbrev row_by_role : Role → Row
+row_by_role role.NewName = used
+row_by_role (role.Known of) = undefined
+row_by_role role.Size = ranges
+row_by_role role.Value = ranges
+row_by_role (role.Term o) = undefined
+row_by_role role.Comparison = used
+row_by_role role.Amount = used
+row_by_role (role.Key key) = used
+
 module _ (p : Progress) (l : PlainLine) (k : Kind) (opened : Opens l k) where
   abbrev words : List PlainWord
   words = words_of l
 
-  row_refuses : (i : ℕ) (f : SchemeFault) → Applies p l names i f → (i < length words) × (name_check p.scheme k words i (get_or words i no_word) ≡ Err f)
-  row_refuses i f a =
-      (a.1, ap (λ x. name_check p.scheme x words i (word_in words i)) (sym (only p l k opened a.2.0 a.2.1.0)) ∙ name_refuses p.scheme a.2.0 words i f a.0 a.2.1.1)
+  -- some row of that rank applies
+  abbrev Named : ℕ → Type 0
+  Named i = (row : Row) × ((rank row ≡ 6) × Applies p l row i)
 
-  row_means : (i : ℕ) (f : SchemeFault) → i < length words → name_check p.scheme k words i (get_or words i no_word) ≡ Err f → Applies p l names i f
-  row_means i f h refused = let told = name_refused p.scheme k words i f refused in (told.0, h, (k, (opened, told.1)))
+  -- and is reported
+  abbrev NameTold : ℕ → SchemeFault → Type 0
+  NameTold i f = (row : Row) × ((rank row ≡ 6) × Told p l row (scheme_report f) i)
 
-  pub names_clear : right_names p.scheme k words ≡ Ok tt → Clear p l names
-  names_clear h i g a = row_clear (name_check p.scheme k words) no_word words (λ i e. Applies p l names i e) row_refuses row_means h i g a
+  abbrev Refuses : Kind → ℕ → Type 0
+  Refuses o i = (i < length words) × ((f : SchemeFault) × (name_check p.scheme o words i (get_or words i no_word) ≡ Err f))
 
-  pub names_first : (f : SchemeFault) → right_names p.scheme k words ≡ Err f → Leftmost p l names f
-  names_first f h = row_first (name_check p.scheme k words) no_word words (λ i e. Applies p l names i e) row_refuses row_means f h
+  named_as : (o : Kind) → Opens l o → (i : ℕ) → Refuses o i → Refuses k i
+  named_as o is i = subst (λ x. Refuses x i) (only p l k opened o is)
 
--- two faults of one word are one
-pub same_name_fault : (p : Progress) (l : PlainLine) (i : ℕ) (f g : SchemeFault) → Applies p l names i f → Applies p l names i g → f ≡ g
-same_name_fault p l i f g a b =
-    let k = a.2.0 in
-    let opened = a.2.1.0 in
-    let one = (row_refuses p l k opened i f a).1 in
-    let two = (row_refuses p l k opened i g b).1 in
-    cc
+  row_refuses : (i : ℕ) → Named i → Refuses k i
+  row_refuses i (used, (is, a)) =
+      let o = a.2.0 in
+      let f = Used (spot_of (word_in words i)) in
+      named_as o a.2.1.0 i (a.1, (f, name_refuses p.scheme o words i f a.0 (inl (a.2.1.1, refl))))
+  row_refuses i (undefined, (is, a)) =
+      let o = a.2.0 in
+      let f = Undefined (spot_of (word_in words i)) in
+      named_as o a.2.1.0 i (a.1, (f, name_refuses p.scheme o words i f a.0 (inr (inl (a.2.1.1, refl)))))
+  row_refuses i (ranges, (is, a)) =
+      let o = a.2.0 in
+      let f = Range (spot_of (word_in words i)) in
+      named_as o a.2.1.0 i (a.1, (f, name_refuses p.scheme o words i f a.0 (inr (inr (a.2.1.1, refl)))))
+  row_refuses i (bytes, (is, a)) = absurd (omega arith)
+  row_refuses i (lengths, (is, a)) = absurd (omega arith)
+  row_refuses i (kinds, (is, a)) = absurd (omega arith)
+  row_refuses i (counts, (is, a)) = absurd (omega arith)
+  row_refuses i (forms, (is, a)) = absurd (omega arith)
+  row_refuses i (most, (is, a)) = absurd (omega arith)
+
+  told_by : (i : ℕ) (f : SchemeFault) → 0 < i → i < length words → Misnamed p.scheme k words i f → NameTold i f
+  told_by i f some h (inl (what, is)) = (used, (refl, ((some, h, (k, (opened, what))), ap scheme_report is ∙ at_word p l 20 i h)))
+  told_by i f some h (inr (inl (what, is))) = (undefined, (refl, ((some, h, (k, (opened, what))), ap scheme_report is ∙ at_word p l 21 i h)))
+  told_by i f some h (inr (inr (what, is))) = (ranges, (refl, ((some, h, (k, (opened, what))), ap scheme_report is ∙ at_word p l 22 i h)))
+
+  row_tells : (i : ℕ) (f : SchemeFault) → i < length words → name_check p.scheme k words i (get_or words i no_word) ≡ Err f → NameTold i f
+  row_tells i f h refused = let told = name_refused p.scheme k words i f refused in told_by i f told.0 h told.1
+
+  pub names_clear : right_names p.scheme k words ≡ Ok tt → (row : Row) → rank row ≡ 6 → Clear p l row
+  names_clear h row is i a = row_clear (name_check p.scheme k words) no_word words Named row_refuses h i (row, (is, a))
+
+  pub names_first : (f : SchemeFault) → right_names p.scheme k words ≡ Err f → (i : ℕ) × (NameTold i f × ((j : ℕ) → Named j → i ≤ j))
+  names_first = row_first (name_check p.scheme k words) no_word words Named row_refuses NameTold row_tells
+
+-- at most one row of that rank applies to a word
+module _ (p : Progress) (l : PlainLine) (i : ℕ) where
+  module _ (k : Kind) (opened : Opens l k) where
+    at_role : (o : Kind) → Opens l o → (r : Role) → role_at o (words_of l) i ≡ r → row_by_role r ≡ row_by_role (role_at k (words_of l) i)
+    at_role o is r h = ap row_by_role (sym h ∙ ap (λ x. role_at x (words_of l) i) (only p l k opened o is))
+
+    by_role : (row : Row) → rank row ≡ 6 → Applies p l row i → row ≡ row_by_role (role_at k (words_of l) i)
+    by_role used is a = at_role a.2.0 a.2.1.0 role.NewName a.2.1.1.0
+    by_role undefined is a =
+        ⊎_elim
+        (λ (u : Unknown p.scheme a.2.0 (words_of l) i). at_role a.2.0 a.2.1.0 (role.Known u.0) u.1.0)
+        (λ (u : Unattributed p.scheme a.2.0 (words_of l) i). at_role a.2.0 a.2.1.0 (role.Term u.0) u.1.1.1.0)
+        a.2.1.1
+    by_role ranges is a =
+        ⊎_elim
+        (λ (v : Oversized a.2.0 (words_of l) i). at_role a.2.0 a.2.1.0 role.Size v.1.0)
+        (λ (v : Overvalued p.scheme a.2.0 (words_of l) i). at_role a.2.0 a.2.1.0 role.Value v.1.0)
+        a.2.1.1
+    by_role bytes is a = absurd (omega arith)
+    by_role lengths is a = absurd (omega arith)
+    by_role kinds is a = absurd (omega arith)
+    by_role counts is a = absurd (omega arith)
+    by_role forms is a = absurd (omega arith)
+    by_role most is a = absurd (omega arith)
+
+  opened_by : (row : Row) → rank row ≡ 6 → Applies p l row i → (k : Kind) × Opens l k
+  opened_by used is a = (a.2.0, a.2.1.0)
+  opened_by undefined is a = (a.2.0, a.2.1.0)
+  opened_by ranges is a = (a.2.0, a.2.1.0)
+  opened_by bytes is a = absurd (omega arith)
+  opened_by lengths is a = absurd (omega arith)
+  opened_by kinds is a = absurd (omega arith)
+  opened_by counts is a = absurd (omega arith)
+  opened_by forms is a = absurd (omega arith)
+  opened_by most is a = absurd (omega arith)
+
+  pub one_name_row : (r s : Row) → rank r ≡ 6 → rank s ≡ 6 → Applies p l r i → Applies p l s i → r ≡ s
+  one_name_row r s is same a b =
+      let o = opened_by r is a in
+      by_role o.0 o.1 r is a ∙ sym (by_role o.0 o.1 s same b)

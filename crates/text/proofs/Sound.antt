@@ -19,20 +19,18 @@ use Rattle.protection.specs.declared.permission.Permission.{Permission}
 use Rattle.protection.specs.Permissions.{within}
 use Rattle.record.specs.Accepted.{accepted}
 use Rattle.record.specs.Systems.{permission_asked}
-use Rattle.words.specs.Positions.{PlainLine, PlainWord, spot_of, word_in}
+use Rattle.words.specs.Positions.{PlainLine, PlainWord, word_in}
 use Rattle.words.specs.Cuts.{words_of, text_lines}
 use Rattle.words.specs.Tokens.{Form, name, number, term, operator, other, form_of}
 use Rattle.lines.specs.Kinds.{kind_in, last_rank, in_order, count_allowed}
 use Rattle.lines.specs.Roles.{role_at}
 use Rattle.lines.specs.declared.role.Role.TheVariants as role
-use Rattle.lines.specs.declared.fault.LineFault.TheVariants as line
-use Rattle.text.specs.declared.fault.SchemeFault.TheVariants.{OfLine, Undefined, Range}
 use Rattle.text.specs.Naming.{size_at}
 use Rattle.text.specs.Declaring.{name_in, value_form, value_in, values_at, object_in, predicate_in, action_in, query_in, number_among, declared}
 use Rattle.text.specs.Reading.{Progress, start, read_line, complete, few_states, reading}
-use Rattle.text.specs.Refusing.{kinds, counts, names, word_at, Opens, Faultless, below, first_kind, below_line, Passed}
+use Rattle.text.specs.Refusing.{kinds, counts, undefined, ranges, Opens, Faultless, below, first_kind, below_line, Passed}
 use Rattle.text.proofs.Firsts.{line_faultless}
-use Rattle.text.proofs.Whole.{reading_is_lawful, is_complete}
+use Rattle.text.proofs.Whole.{reading_as_the_table_says, is_complete}
 
 -- queries are about objects and rights below the counts
 abbrev pub queries_fit : (objects rights : ℕ) → List Query → Bool
@@ -152,14 +150,14 @@ module _ (p : Progress) (l : PlainLine) (faultless : Faultless p l) where
   ordered k opened =
       ⊎_elim
       (λ (is : in_order p.last k ≡ true). is)
-      (λ (not_in : in_order p.last k ≡ false). absurd (faultless kinds 0 (OfLine (line.Kind (spot_of (word_at l 0)))) (refl, opened.0, inr (k, (opened.1, not_in)), refl)))
+      (λ (not_in : in_order p.last k ≡ false). absurd (faultless kinds 0 (refl, opened.0, inr (k, (opened.1, not_in)))))
       (cases_Bool (in_order p.last k))
 
   pub counted : (k : Kind) → Opens l k → count_allowed k (length m.attributes) (length ws) ≡ true
   counted k opened =
       ⊎_elim
       (λ (is : count_allowed k (length m.attributes) (length ws) ≡ true). is)
-      (λ (not_so : count_allowed k (length m.attributes) (length ws) ≡ false). absurd (faultless counts 0 (OfLine (line.Count (spot_of (word_at l 0)))) (refl, (k, (opened, not_so)), refl)))
+      (λ (not_so : count_allowed k (length m.attributes) (length ws) ≡ false). absurd (faultless counts 0 (refl, (k, (opened, not_so)))))
       (cases_Bool (count_allowed k (length m.attributes) (length ws)))
 
   value_below : Opens l kind.Object → (j v : ℕ) → j < length m.attributes → form_of (word_in ws (2 + j)).bytes ≡ number v → v < size_at m j
@@ -169,7 +167,7 @@ module _ (p : Progress) (l : PlainLine) (faultless : Faultless p l) where
       let at : j ≡ 2 + j - 2 = omega arith in
       ⊎_elim
       (λ (low : v < size_at m j). low)
-      (λ (high : size_at m j ≤ v). absurd (faultless names (2 + j) (Range (spot_of (word_at l (2 + j)))) (omega arith, omega arith, (kind.Object, (opened, inr (inr (inr (v, (value, is, subst (λ i. size_at m i ≤ v) at high)), refl)))))))
+      (λ (high : size_at m j ≤ v). absurd (faultless ranges (2 + j) (omega arith, omega arith, (kind.Object, (opened, inr (v, (value, is, subst (λ i. size_at m i ≤ v) at high)))))))
       (cases_lt v (size_at m j))
 
   values_sound : Opens l kind.Object → values_fit (sizes_of m) (values_at 2 m.attributes ws) ≡ true
@@ -182,7 +180,7 @@ module _ (p : Progress) (l : PlainLine) (faultless : Faultless p l) where
     known_found =
         ⊎_elim
         (λ (is : is_some (index_of (word_in ws i).bytes (names_of of m)) ≡ true). is)
-        (λ (lacks : is_some (index_of (word_in ws i).bytes (names_of of m)) ≡ false). absurd (faultless names i (Undefined (spot_of (word_at l i))) (behind, within_line, (k, (opened, inr (inl (inl (of, (known, lacks)), refl)))))))
+        (λ (lacks : is_some (index_of (word_in ws i).bytes (names_of of m)) ≡ false). absurd (faultless undefined i (behind, within_line, (k, (opened, inl (of, (known, lacks)))))))
         (cases_Bool (is_some (index_of (word_in ws i).bytes (names_of of m))))
 
     known_below : number_among (word_in ws i).bytes (names_of of m) < length (names_of of m)
@@ -272,7 +270,7 @@ module _ (m : SchemeModel) (formed : well_formed m ≡ true) (whole : complete m
 -- what an accepted text declares is sound
 reading_sound : (text : List ℕ) (m : SchemeModel) → reading text ≡ Ok m → (p : Progress) × (m ≡ p.scheme) × Sound p
 reading_sound text m h =
-    let a = (reading_is_lawful text (Ok m) (sym h)).judged in
+    let a = (reading_as_the_table_says text (Ok m) (sym h)).said in
     (a.all, a.scheme, passed_sound start (text_lines text) a.all a.passed start_sound)
 
 -- the queries of every accepted text are within its counts
@@ -285,7 +283,7 @@ reading_asked text m h i q is =
 -- the scheme of every accepted text is accepted
 pub reading_accepted : (text : List ℕ) (m : SchemeModel) → reading text ≡ Ok m → accepted m ≡ true
 reading_accepted text m h =
-    let a = (reading_is_lawful text (Ok m) (sym h)).judged in
+    let a = (reading_as_the_table_says text (Ok m) (sym h)).said in
     let q = a.all.scheme in
     let s = passed_sound start (text_lines text) a.all a.passed start_sound in
     ap accepted a.scheme ∙ accepted_few q s.formed (is_complete q (complete q) refl a.complete) ∙ le-leb (state_count q) 1048576 a.few

@@ -31,7 +31,8 @@ use Rattle.text.specs.Naming.{term_check, term_form_check, role_check}
 use Rattle.text.specs.Declaring as d
 use Rattle.text.specs.Reading.{Progress}
 use Rattle.text.specs.Writing.{name_at, comparison_word, term_word, operand_word, predicate_words, action_words, query_words, NamesFit, OperandFits, PredicateFits, ActionFits, QueryFits}
-use Rattle.text.proofs.WritingCut.{Inked, spelled, standing}
+use Rattle.text.proofs.Named.{name_tested}
+use Rattle.text.proofs.WritingCut.{Inked, spelled, standing, spots}
 use Rattle.text.proofs.WritingForms.{name_form, name_inked, decimal_form, decimal_inked, term_form_of, term_inked, comparison_form_of, comparison_inked, found}
 use Rattle.text.proofs.WritingLines.{Step, line_read, form_passes, new_passes, known_passes}
 
@@ -41,15 +42,16 @@ pub policy_step : (p : Progress) (b : List ℕ) (right : ℕ) → is_name b ≡ 
     → Step p (codes "policy" ∷ b ∷ name_at p.scheme.rights right ∷ []) (record { scheme = with_policies (p.scheme.policies ++ opened b right ∷ []) p.scheme; last = Some kind.Policy })
 policy_step p b right named fit less last room new =
     let r : List ℕ = name_at p.scheme.rights right in
-    let right_named : is_name r ≡ true = fit.each right [] less in
+    let right_named = name_tested r (fit.each right [] less) in
     let at : index_of r p.scheme.rights ≡ Some right = found p.scheme.rights right fit less in
     let all : AllByRecursion Inked (codes "policy" ∷ b ∷ r ∷ []) = (spelled (codes "policy") refl, (name_inked b named, (name_inked r right_named, tt))) in
     record {
       inked = all;
+      some = omega arith;
       few = omega arith;
-      reads = λ n.
-          let ws = standing n 1 (codes "policy" ∷ b ∷ r ∷ []) in
-          line_read p n kind.Policy (codes "policy") (b ∷ r ∷ []) all (with_policies (p.scheme.policies ++ opened b right ∷ []) p.scheme) refl
+      reads = λ l plain says.
+          let ws = standing (spots l) (codes "policy" ∷ b ∷ r ∷ []) in
+          line_read p l plain kind.Policy (codes "policy") (b ∷ r ∷ []) all says (with_policies (p.scheme.policies ++ opened b right ∷ []) p.scheme) refl
           (le-leb (last_rank p.last) 5 last)
           refl
           (refl, (form_passes kind.Policy ws 1 (word_in ws 1) (name b) (name_form b named) refl, (form_passes kind.Policy ws 2 (word_in ws 2) (name r) (name_form r right_named) refl, tt)))
@@ -69,7 +71,7 @@ module _ (m : SchemeModel) (fit : NamesFit (attribute_names m)) where
     a_less = let long = length-map m.attributes (λ (x : AttributeModel). x.name) in omega arith
 
     a_named : is_name named_a ≡ true
-    a_named = fit.each a [] a_less
+    a_named = name_tested named_a (fit.each a [] a_less)
 
     a_found : index_of named_a (attribute_names m) ≡ Some a
     a_found = found (attribute_names m) a fit a_less
@@ -143,10 +145,11 @@ module _ (p : Progress) (fit : NamesFit (attribute_names p.scheme)) (low : 3 ≤
         let all : AllByRecursion Inked (codes "if" ∷ tw ∷ b ∷ []) = (spelled (codes "if") refl, (term_inks m fit q a less, (ink, tt))) in
         record {
           inked = all;
+          some = omega arith;
           few = omega arith;
-          reads = λ n.
-              let ws = standing n 1 (codes "if" ∷ tw ∷ b ∷ []) in
-              line_read p n kind.If (codes "if") (tw ∷ b ∷ []) all (with_predicate x) refl if_order refl
+          reads = λ l plain says.
+              let ws = standing (spots l) (codes "if" ∷ tw ∷ b ∷ []) in
+              line_read p l plain kind.If (codes "if") (tw ∷ b ∷ []) all says (with_predicate x) refl if_order refl
               (refl, (form_passes kind.If ws 1 (word_in ws 1) (term q (name_at (attribute_names m) a)) form refl, (form_passes kind.If ws 2 (word_in ws 2) (form_of b) refl a_test, tt)))
               room
               (refl, (term_passes m fit q a less (word_in ws 1) form, (refl, tt)))
@@ -166,10 +169,11 @@ module _ (p : Progress) (fit : NamesFit (attribute_names p.scheme)) (low : 3 ≤
         let all : AllByRecursion Inked (predicate_words m (Compare t c o)) = (spelled (codes "if") refl, (term_inks m fit q a less, (comparison_inked c, (operand_inks m fit o fits_o, tt)))) in
         record {
           inked = all;
+          some = omega arith;
           few = omega arith;
-          reads = λ n.
-              let ws = standing n 1 (predicate_words m (Compare t c o)) in
-              line_read p n kind.If (codes "if") (tw ∷ cw ∷ ow ∷ []) all (with_predicate (Compare t c o)) refl if_order refl
+          reads = λ l plain says.
+              let ws = standing (spots l) (predicate_words m (Compare t c o)) in
+              line_read p l plain kind.If (codes "if") (tw ∷ cw ∷ ow ∷ []) all says (with_predicate (Compare t c o)) refl if_order refl
               (refl, (form_passes kind.If ws 1 (word_in ws 1) (term q (name_at (attribute_names m) a)) form refl, (form_passes kind.If ws 2 (word_in ws 2) (operator (operators.Compare c)) (comparison_form_of c) refl, (form_passes kind.If ws 3 (word_in ws 3) (form_of ow) refl (operand_fits m fit o fits_o), tt))))
               room
               (refl, (term_passes m fit q a less (word_in ws 1) form, (refl, (operand_passes m fit (word_in ws 3) o fits_o refl, tt))))
@@ -197,10 +201,11 @@ module _ (p : Progress) (fit : NamesFit (attribute_names p.scheme)) (low : 3 ≤
         let all : AllByRecursion Inked (codes "do" ∷ tw ∷ codes "to" ∷ b ∷ []) = (spelled (codes "do") refl, (term_inks m fit q a less, (spelled (codes "to") refl, (ink, tt)))) in
         record {
           inked = all;
+          some = omega arith;
           few = omega arith;
-          reads = λ n.
-              let ws = standing n 1 (codes "do" ∷ tw ∷ codes "to" ∷ b ∷ []) in
-              line_read p n kind.Do (codes "do") (tw ∷ codes "to" ∷ b ∷ []) all (with_action x) refl do_order refl
+          reads = λ l plain says.
+              let ws = standing (spots l) (codes "do" ∷ tw ∷ codes "to" ∷ b ∷ []) in
+              line_read p l plain kind.Do (codes "do") (tw ∷ codes "to" ∷ b ∷ []) all says (with_action x) refl do_order refl
               (refl, (form_passes kind.Do ws 1 (word_in ws 1) (term q (name_at (attribute_names m) a)) form refl, (form_passes kind.Do ws 2 (word_in ws 2) (form_of (codes "to")) refl refl, (form_passes kind.Do ws 3 (word_in ws 3) (form_of b) refl a_source, tt))))
               room
               (refl, (term_passes m fit q a less (word_in ws 1) form, (refl, (known (word_in ws 3) refl, tt))))
@@ -219,10 +224,11 @@ module _ (p : Progress) (fit : NamesFit (attribute_names p.scheme)) (low : 3 ≤
         let all : AllByRecursion Inked (codes "do" ∷ tw ∷ b ∷ decimal v ∷ []) = (spelled (codes "do") refl, (term_inks m fit q a less, (ink, (decimal_inked v byte, tt)))) in
         record {
           inked = all;
+          some = omega arith;
           few = omega arith;
-          reads = λ n.
-              let ws = standing n 1 (codes "do" ∷ tw ∷ b ∷ decimal v ∷ []) in
-              line_read p n kind.Do (codes "do") (tw ∷ b ∷ decimal v ∷ []) all (with_action x) refl do_order refl
+          reads = λ l plain says.
+              let ws = standing (spots l) (codes "do" ∷ tw ∷ b ∷ decimal v ∷ []) in
+              line_read p l plain kind.Do (codes "do") (tw ∷ b ∷ decimal v ∷ []) all says (with_action x) refl do_order refl
               (refl, (form_passes kind.Do ws 1 (word_in ws 1) (term q (name_at (attribute_names m) a)) form refl, (form_passes kind.Do ws 2 (word_in ws 2) (form_of b) refl a_verb, (form_passes kind.Do ws 3 (word_in ws 3) (number v) (decimal_form v byte) (ap (λ z. fits (cond z (role.Term NumberOrDash) role.Amount) (number v)) not_to), tt))))
               room
               (refl, (term_passes m fit q a less (word_in ws 1) form, (refl, (ap (λ z. role_check m kind.Do 3 (word_in ws 3) (cond z (role.Term NumberOrDash) role.Amount)) not_to, tt))))
@@ -237,10 +243,11 @@ module _ (p : Progress) (fit : NamesFit (attribute_names p.scheme)) (low : 3 ≤
         let all : AllByRecursion Inked (codes "do" ∷ codes "destroy" ∷ b ∷ []) = (spelled (codes "do") refl, (spelled (codes "destroy") refl, (ink, tt))) in
         record {
           inked = all;
+          some = omega arith;
           few = omega arith;
-          reads = λ n.
-              let ws = standing n 1 (codes "do" ∷ codes "destroy" ∷ b ∷ []) in
-              line_read p n kind.Do (codes "do") (codes "destroy" ∷ b ∷ []) all (with_action (Destroy q)) refl do_order refl
+          reads = λ l plain says.
+              let ws = standing (spots l) (codes "do" ∷ codes "destroy" ∷ b ∷ []) in
+              line_read p l plain kind.Do (codes "do") (codes "destroy" ∷ b ∷ []) all says (with_action (Destroy q)) refl do_order refl
               (refl, (form_passes kind.Do ws 1 (word_in ws 1) (form_of (codes "destroy")) refl refl, (form_passes kind.Do ws 2 (word_in ws 2) (form_of b) refl a_party, tt)))
               room
               (refl, (refl, (refl, tt)))
@@ -267,19 +274,20 @@ query_step p q objects rights fit room =
     let s = name_at (object_names m) q.subject in
     let o = name_at (object_names m) q.object in
     let r = name_at m.rights q.right in
-    let s_named : is_name s ≡ true = objects.each q.subject [] s_less in
-    let o_named : is_name o ≡ true = objects.each q.object [] o_less in
-    let r_named : is_name r ≡ true = rights.each q.right [] fit.right in
+    let s_named = name_tested s (objects.each q.subject [] s_less) in
+    let o_named = name_tested o (objects.each q.object [] o_less) in
+    let r_named = name_tested r (rights.each q.right [] fit.right) in
     let s_at = found (object_names m) q.subject objects s_less in
     let o_at = found (object_names m) q.object objects o_less in
     let r_at = found m.rights q.right rights fit.right in
     let all : AllByRecursion Inked (query_words m q) = (spelled (codes "query") refl, (name_inked s s_named, (name_inked o o_named, (name_inked r r_named, tt)))) in
     record {
       inked = all;
+      some = omega arith;
       few = omega arith;
-      reads = λ n.
-          let ws = standing n 1 (query_words m q) in
-          line_read p n kind.Query (codes "query") (s ∷ o ∷ r ∷ []) all (with_query q m) refl refl refl
+      reads = λ l plain says.
+          let ws = standing (spots l) (query_words m q) in
+          line_read p l plain kind.Query (codes "query") (s ∷ o ∷ r ∷ []) all says (with_query q m) refl refl refl
           (refl, (form_passes kind.Query ws 1 (word_in ws 1) (name s) (name_form s s_named) refl, (form_passes kind.Query ws 2 (word_in ws 2) (name o) (name_form o o_named) refl, (form_passes kind.Query ws 3 (word_in ws 3) (name r) (name_form r r_named) refl, tt))))
           (lt-ltb (length m.queries) 16 room)
           (refl, (known_passes m kind.Object (word_in ws 1) q.subject s_at, (known_passes m kind.Object (word_in ws 2) q.object o_at, (known_passes m kind.Right (word_in ws 3) q.right r_at, tt))))

@@ -1,36 +1,26 @@
--- A written text is cut into the lines and the words that it was written from.
-use Rattle.std.proofs.Common.{◌≡◌, ℕ, suc, ◌+◌, ◌*◌, ◌<◌, ◌≤◌, Bool, true, false, cond, ◌&&◌, eqb, ltb, leb, List, [], ◌∷◌, ◌++◌, length, Ok, Result, refl, ap, ◌∙◌, arith}
+-- A written text is cut into the lines and the words that it was written from; and what a line of given words passes.
+use Rattle.std.proofs.Common.{◌≡◌, ◌≢◌, ℕ, suc, ◌+◌, ◌*◌, ◌<◌, ◌≤◌, Bool, true, ◌&&◌, ltb, leb, List, [], ◌∷◌, ◌++◌, length, Ok, Result, refl, ap, ◌∙◌, arith}
 use Rattle.std.specs.List.{list_all, AllByRecursion}
 use Rattle.std.proofs.lemmas.List.{length-append}
-use Rattle.std.proofs.lemmas.Bool.{and_parts, and_from, cond-true, eq-eqb, ne_eqb, leb-true, ltb-true, le-leb}
+use Rattle.std.proofs.lemmas.List.Sums.{AllPass-from_list_all}
+use Rattle.std.proofs.lemmas.List.Elements.{All-weaker}
+use Rattle.std.proofs.lemmas.Bool.{and_parts, and_from, cond-true, leb-true, ltb-true, le-leb}
 use Rattle.words.specs.Outcomes.{and_then, in_turn}
-use Rattle.words.specs.Positions.{PlainLine, PlainWord}
-use Rattle.words.specs.Cuts.{on_first, pieces, placed, words_of}
+use Rattle.words.specs.declared.position.Spot.{Spot}
+use Rattle.words.specs.Positions.{PlainLine, PlainWord, spot_of, word_in}
+use Rattle.words.specs.Cuts.{pieces, placed, words_of}
 use Rattle.words.specs.Plain.{printable, byte_check, length_check, short_words, plain_line}
+use Rattle.words.proofs.Joins.{Unbroken, piece_ended, piece_last}
 use Rattle.text.specs.Writing.{parted}
+use Rattle.text.specs.Wording.{bytes_of, worded, has_word}
 
 -- a step that does not refuse
 pub passes : {A B E : Type 0} (r : Result A E) (x : A) (f : A → Result B E) → r ≡ Ok x → and_then r f ≡ f x
 passes r x f h = ap (λ s. and_then s f) h
 
-module _ (separator : ℕ) (test : ℕ → Bool) (away : (b : ℕ) → test b ≡ true → eqb b separator ≡ false) where
-  -- a piece that its separator ends
-  pub piece : (w rest : List ℕ) → list_all test w ≡ true → pieces separator (w ++ separator ∷ rest) ≡ w ∷ pieces separator rest
-  piece [] rest h = ap (λ t. cond t ([] ∷ pieces separator rest) (on_first separator (pieces separator rest))) (eq-eqb separator separator refl)
-  piece (b ∷ bs) rest h =
-      let parts = and_parts (test b) (list_all test bs) h in
-      ap (λ t. cond t ([] ∷ pieces separator (bs ++ separator ∷ rest)) (on_first b (pieces separator (bs ++ separator ∷ rest)))) (away b parts.0)
-      ∙ ap (on_first b) (piece bs rest parts.1)
-
-  -- the last piece, which lacks it
-  pub last_piece : (b : ℕ) (bs : List ℕ) → list_all test (b ∷ bs) ≡ true → pieces separator (b ∷ bs) ≡ (b ∷ bs) ∷ []
-  last_piece b [] h =
-      let parts = and_parts (test b) true h in
-      ap (λ t. cond t ([] ∷ []) ((b ∷ []) ∷ [])) (away b parts.0)
-  last_piece b (c ∷ cs) h =
-      let parts = and_parts (test b) (list_all test (c ∷ cs)) h in
-      ap (λ t. cond t ([] ∷ pieces separator (c ∷ cs)) (on_first b (pieces separator (c ∷ cs)))) (away b parts.0)
-      ∙ ap (on_first b) (last_piece c cs parts.1)
+-- bytes that pass a test which the separator does not pass
+unbroken : (separator : ℕ) (test : ℕ → Bool) → ((b : ℕ) → test b ≡ true → b ≢ separator) → (w : List ℕ) → list_all test w ≡ true → Unbroken separator w
+unbroken separator test away w h = All-weaker (λ b. test b ≡ true) (λ b. b ≢ separator) away w (AllPass-from_list_all test w h)
 
 -- what the words of a written text are made of: neither spaces nor line ends
 abbrev pub inked : ℕ → Bool
@@ -54,14 +44,11 @@ spelled w h =
 inked_parts : (b : ℕ) → inked b ≡ true → (32 < b) × (b ≤ 126)
 inked_parts b h = let parts = and_parts (ltb 32 b) (leb b 126) h in (ltb-true 32 b parts.0, leb-true b 126 parts.1)
 
-no_space : (b : ℕ) → inked b ≡ true → eqb b 32 ≡ false
-no_space b h = let parts = inked_parts b h in ne_eqb b 32 (λ e. omega arith)
+no_space : (w : List ℕ) → list_all inked w ≡ true → Unbroken 32 w
+no_space = unbroken 32 inked (λ b h e. let parts = inked_parts b h in omega arith)
 
-no_end : (b : ℕ) → printable b ≡ true → eqb b 10 ≡ false
-no_end b h =
-    let parts = and_parts (leb 32 b) (leb b 126) h in
-    let low = leb-true 32 b parts.0 in
-    ne_eqb b 10 (λ e. omega arith)
+no_end : (w : List ℕ) → list_all printable w ≡ true → Unbroken 10 w
+no_end = unbroken 10 printable (λ b h e. let parts = and_parts (leb 32 b) (leb b 126) h in omega (arith, leb-true 32 b parts.0))
 
 inked_printable : (w : List ℕ) → list_all inked w ≡ true → list_all printable w ≡ true
 inked_printable [] h = refl
@@ -89,46 +76,60 @@ parted_length (w ∷ v ∷ ws) all =
     let rest = parted_length (v ∷ ws) all.1 in
     omega (arith, length-append w (32 ∷ parted (v ∷ ws)))
 
--- the words of a line where they stand
-abbrev pub standing : ℕ → ℕ → List (List ℕ) → List PlainWord
-standing n p [] = []
-standing n p (w ∷ ws) = record { bytes = w; line = n; place = p } ∷ standing n (p + suc (length w)) ws
-
 parted_pieces : (ws : List (List ℕ)) → AllByRecursion Inked ws → pieces 32 (parted ws) ≡ ws
 parted_pieces [] all = refl
 parted_pieces ([] ∷ []) all = let some = all.0.some in absurd (omega arith)
-parted_pieces ((b ∷ w) ∷ []) all = last_piece 32 inked no_space b w all.0.bytes
-parted_pieces (w ∷ v ∷ ws) all = piece 32 inked no_space w (parted (v ∷ ws)) all.0.bytes ∙ ap (λ l. w ∷ l) (parted_pieces (v ∷ ws) all.1)
+parted_pieces ((b ∷ w) ∷ []) all = piece_last 32 b w (no_space (b ∷ w) all.0.bytes)
+parted_pieces (w ∷ v ∷ ws) all = piece_ended 32 w (parted (v ∷ ws)) (no_space w all.0.bytes) ∙ ap (λ l. w ∷ l) (parted_pieces (v ∷ ws) all.1)
 
-placed_standing : (n p : ℕ) (ws : List (List ℕ)) → AllByRecursion Inked ws → placed n p ws ≡ standing n p ws
-placed_standing n p [] all = refl
-placed_standing n p ([] ∷ ws) all = let some = all.0.some in absurd (omega arith)
-placed_standing n p ((b ∷ w) ∷ ws) all = ap (λ l. record { bytes = b ∷ w; line = n; place = p } ∷ l) (placed_standing n (p + suc (length (b ∷ w))) ws all.1)
+placed_bytes : (n p : ℕ) (ws : List (List ℕ)) → AllByRecursion Inked ws → bytes_of (placed n p ws) ≡ ws
+placed_bytes n p [] all = refl
+placed_bytes n p ([] ∷ ws) all = let some = all.0.some in absurd (omega arith)
+placed_bytes n p ((b ∷ w) ∷ ws) all = ap (λ l. (b ∷ w) ∷ l) (placed_bytes n (p + suc (length (b ∷ w))) ws all.1)
 
-module _ (n : ℕ) (ws : List (List ℕ)) (all : AllByRecursion Inked ws) where
-  abbrev line : PlainLine
-  line = record { bytes = parted ws; number = n }
-
-  pub words_again : words_of line ≡ standing n 1 ws
-  words_again = ap (placed n 1) (parted_pieces ws all) ∙ placed_standing n 1 ws all
-
-  bytes_pass : (i : ℕ) (bs : List ℕ) → list_all printable bs ≡ true → in_turn (byte_check n) i bs ≡ Ok tt
-  bytes_pass i [] h = refl
-  bytes_pass i (b ∷ bs) h =
-      let parts = and_parts (printable b) (list_all printable bs) h in
-      passes (byte_check n i b) tt (λ _. in_turn (byte_check n) (i + 1) bs) (cond-true (printable b) _ _ parts.0) ∙ bytes_pass (i + 1) bs parts.1
-
-  lengths_pass : (i p : ℕ) (vs : List (List ℕ)) → AllByRecursion Inked vs → in_turn length_check i (standing n p vs) ≡ Ok tt
-  lengths_pass i p [] h = refl
-  lengths_pass i p (v ∷ vs) h =
-      passes (length_check i (record { bytes = v; line = n; place = p })) tt (λ _. in_turn length_check (i + 1) (standing n (p + suc (length v)) vs)) (cond-true (leb (length v) 17) _ _ (le-leb (length v) 17 h.0.short))
-      ∙ lengths_pass (i + 1) (p + suc (length v)) vs h.1
-
-  pub line_plain : plain_line line ≡ Ok tt
-  line_plain =
-      ap (λ r. and_then r (λ _. short_words line)) (bytes_pass 0 (parted ws) (parted_printable ws all))
-      ∙ ap (in_turn length_check 0) words_again
-      ∙ lengths_pass 0 1 ws all
+module _ (ws : List (List ℕ)) (all : AllByRecursion Inked ws) where
+  pub words_again : (n : ℕ) → worded (record { bytes = parted ws; number = n }) ≡ ws
+  words_again n = ap (λ ps. bytes_of (placed n 1 ps)) (parted_pieces ws all) ∙ placed_bytes n 1 ws all
 
   pub line_again : (rest : List ℕ) → pieces 10 (parted ws ++ 10 ∷ rest) ≡ parted ws ∷ pieces 10 rest
-  line_again rest = piece 10 printable no_end (parted ws) rest (parted_printable ws all)
+  line_again rest = piece_ended 10 (parted ws) rest (no_end (parted ws) (parted_printable ws all))
+
+pub some_word : (ws : List (List ℕ)) → 0 < length ws → has_word ws ≡ true
+some_word [] some = absurd (omega arith)
+some_word (w ∷ ws) some = refl
+
+-- a line of printable bytes, whose words are short
+
+abbrev pub PrintableLine : PlainLine → Type 0
+PrintableLine l = list_all printable l.bytes ≡ true
+
+bytes_pass : (n i : ℕ) (bs : List ℕ) → list_all printable bs ≡ true → in_turn (byte_check n) i bs ≡ Ok tt
+bytes_pass n i [] h = refl
+bytes_pass n i (b ∷ bs) h =
+    let parts = and_parts (printable b) (list_all printable bs) h in
+    passes (byte_check n i b) tt (λ _. in_turn (byte_check n) (i + 1) bs) (cond-true (printable b) _ _ parts.0) ∙ bytes_pass n (i + 1) bs parts.1
+
+lengths_pass : (i : ℕ) (vs : List PlainWord) → AllByRecursion Inked (bytes_of vs) → in_turn length_check i vs ≡ Ok tt
+lengths_pass i [] all = refl
+lengths_pass i (v ∷ vs) all =
+    passes (length_check i v) tt (λ _. in_turn length_check (i + 1) vs) (cond-true (leb (length v.bytes) 17) _ _ (le-leb (length v.bytes) 17 all.0.short))
+    ∙ lengths_pass (i + 1) vs all.1
+
+pub line_plain : (l : PlainLine) → PrintableLine l → AllByRecursion Inked (worded l) → plain_line l ≡ Ok tt
+line_plain l plain all = ap (λ r. and_then r (λ _. short_words l)) (bytes_pass l.number 0 l.bytes plain) ∙ lengths_pass 0 (words_of l) all
+
+-- words with their bytes, each where it stands
+
+abbrev pub standing : (ℕ → Spot) → List (List ℕ) → List PlainWord
+standing at [] = []
+standing at (w ∷ ws) = record { bytes = w; line = (at 0).line; place = (at 0).place } ∷ standing (λ i. at (suc i)) ws
+
+abbrev pub spots : PlainLine → ℕ → Spot
+spots l i = spot_of (word_in (words_of l) i)
+
+all_stand : (vs : List PlainWord) → vs ≡ standing (λ i. spot_of (word_in vs i)) (bytes_of vs)
+all_stand [] = refl
+all_stand (v ∷ vs) = ap (λ l. v ∷ l) (all_stand vs)
+
+pub words_stand : (l : PlainLine) (ws : List (List ℕ)) → worded l ≡ ws → words_of l ≡ standing (spots l) ws
+words_stand l ws says = all_stand (words_of l) ∙ ap (standing (spots l)) says

@@ -1,8 +1,8 @@
 -- A written text is read to exactly the scheme that it was written from.
-use Rattle.std.proofs.Common.{◌≡◌, ℕ, suc, ◌+◌, ◌*◌, ◌<◌, ◌≤◌, Bool, true, ltb, leb, List, [], ◌∷◌, ◌++◌, map, length, get_or, Some, None, Ok, Option, All, flat_map, sym, refl, ap, ◌∙◌, subst, append_assoc, append-nil, arith}
-use Rattle.std.specs.List.{AllByRecursion}
+use Rattle.std.proofs.Common.{◌≡◌, ℕ, suc, ◌+◌, ◌*◌, ◌<◌, ◌≤◌, Bool, true, cond, leb, List, [], ◌∷◌, ◌++◌, map, length, get_or, Some, None, Ok, Option, All, flat_map, filter, sym, refl, ap, ◌∙◌, subst, append_assoc, append-nil, arith}
+use Rattle.std.specs.List.{AllByRecursion, AllZip}
 use Rattle.std.proofs.lemmas.List.{length-append, length-map, map-append, get_or_append_left, get_or_at}
-use Rattle.std.proofs.lemmas.Bool.{and_parts, cond-true, ltb-true, lt-ltb, le-leb}
+use Rattle.std.proofs.lemmas.Bool.{cond-true, lt-ltb, le-leb}
 use Rattle.scheme.specs.declared.kind.Kind.{Kind}
 use Rattle.scheme.specs.declared.kind.Kind.TheVariants as kind
 use Rattle.scheme.specs.declared.terms.Predicate.{Predicate}
@@ -13,14 +13,21 @@ use Rattle.scheme.specs.declared.entries.Query.{Query}
 use Rattle.scheme.specs.Names.{index_of}
 use Rattle.scheme.specs.Models.{AttributeModel, ObjectModel, PolicyModel, SchemeModel, bare_model, predicate_room, action_room, filled, last_room, last_filled}
 use Rattle.scheme.specs.Counts.{state_count}
-use Rattle.scheme.specs.Sizes.{sizes_of}
-use Rattle.scheme.specs.WellFormed.{values_fit, objects_fit, rights_fit}
-use Rattle.words.specs.Cuts.{pieces, numbered, text_lines}
+use Rattle.words.specs.Outcomes.{and_then, carried}
+use Rattle.words.specs.Positions.{PlainLine, PlainWord}
+use Rattle.words.specs.Cuts.{words_of, pieces, numbered, text_lines}
+use Rattle.words.specs.Joining.{ended}
+use Rattle.words.specs.Plain.{plain_line}
 use Rattle.words.specs.Forms.{is_name}
+use Rattle.lines.specs.declared.fault.LineFault.TheVariants.{OfWords}
 use Rattle.lines.specs.Kinds.{rank, last_rank}
-use Rattle.text.specs.Reading.{Progress, start, read_line, complete, few_states, finished, read_lines, reading}
-use Rattle.text.specs.Writing.{parted, ended, name_at, attribute_words, right_words, object_words, predicate_words, action_words, policy_lines, query_words, written_lines, written, NamesFit, PredicateFits, ActionFits, PolicyFits, QueryFits, Writable}
-use Rattle.text.proofs.WritingCut.{passes, line_again, parted_length}
+use Rattle.lines.specs.Lines.{line_kind, formed_kind, formed_line}
+use Rattle.text.specs.declared.fault.SchemeFault.TheVariants.{OfLine}
+use Rattle.text.specs.Reading.{Progress, start, read_kind, read_line, complete, few_states, finished, read_lines, reading}
+use Rattle.text.specs.Writing.{parted, IsName, ValueFits, name_at, attribute_words, right_words, object_words, predicate_words, action_words, policy_lines, query_words, written_lines, written, NamesFit, PredicateFits, ActionFits, PolicyFits, QueryFits, Writable}
+use Rattle.text.specs.Wording.{bytes_of, worded, has_word, worded_lines}
+use Rattle.text.proofs.Named.{name_tested, values_tested, complete_tested}
+use Rattle.text.proofs.WritingCut.{passes, some_word, Inked, PrintableLine, line_plain, words_again, line_again, parted_printable, parted_length}
 use Rattle.text.proofs.WritingForms.{missing}
 use Rattle.text.proofs.WritingLines.{Step, attribute_step, right_step, object_step}
 use Rattle.text.proofs.WritingClauses.{policy_step, predicate_step, action_step, query_step}
@@ -35,12 +42,62 @@ reads_on : (ls ks : List (List (List ℕ))) (p q r : Progress) → Reads p ls q 
 reads_on [] ks p q r a b = subst (λ x. Reads x ks r) (sym a) b
 reads_on (l ∷ ls) ks p q r (x, (s, a)) b = (x, (s, reads_on ls ks x q r a b))
 
-reads_lines : (n : ℕ) (ls : List (List (List ℕ))) (p q : Progress) → Reads p ls q → complete q.scheme ≡ true → few_states q.scheme ≡ true → read_lines n (numbered n (pieces 10 (ended (map parted ls)))) p ≡ Ok q.scheme
-reads_lines n [] p q a whole few = ap (λ (x : Progress). finished n x.scheme) a ∙ cond-true (complete q.scheme) _ _ whole ∙ cond-true (few_states q.scheme) _ _ few
-reads_lines n (l ∷ ls) p q (r, (s, a)) whole few =
-    ap (λ x. read_lines n (numbered n x) p) (line_again n l s.inked (ended (map parted ls)))
-    ∙ passes (read_line p (record { bytes = parted l; number = n })) r (read_lines (n + 1) (numbered (n + 1) (pieces 10 (ended (map parted ls))))) (s.reads n)
-    ∙ reads_lines (n + 1) ls r q a whole few
+-- a line with no word adds nothing
+
+no_bytes : (vs : List PlainWord) → bytes_of vs ≡ [] → vs ≡ []
+no_bytes [] none = refl
+no_bytes (v ∷ vs) none = cc
+
+blank_read : (p : Progress) (l : PlainLine) → PrintableLine l → worded l ≡ [] → read_line p l ≡ Ok p
+blank_read p l plain none =
+    let count = length p.scheme.attributes in
+    passes (carried OfLine (formed_line p.last count l)) None (read_kind p (words_of l))
+    (ap (carried OfLine)
+    (passes (carried OfWords (plain_line l)) tt (λ _. and_then (line_kind p.last (words_of l)) (formed_kind count (words_of l)))
+    (ap (carried OfWords) (line_plain l plain (subst (AllByRecursion Inked) (sym none) tt)))
+    ∙ ap (λ vs. and_then (line_kind p.last vs) (formed_kind count vs)) (no_bytes (words_of l) none)))
+
+-- lines with these words are read
+module _ (l : PlainLine) (ls : List PlainLine) (plain : PrintableLine l) (m : SchemeModel) (q : Progress) (n : ℕ) where
+  abbrev more : List (List (List ℕ))
+  more = filter has_word (map worded ls)
+
+  abbrev counted : List (List ℕ) → List (List (List ℕ))
+  counted ws = cond (has_word ws) (ws ∷ more) more
+
+  reads_first : (p : Progress) (said : List (List (List ℕ))) (ws : List (List ℕ)) → ((r : Progress) (ks : List (List (List ℕ))) → Reads r ks q → more ≡ ks → read_lines n ls r ≡ Ok m)
+      → worded l ≡ ws → Reads p said q → counted (worded l) ≡ said → and_then (read_line p l) (read_lines n ls) ≡ Ok m
+  reads_first p said [] later none a says = passes (read_line p l) p (read_lines n ls) (blank_read p l plain none) ∙ later p said a (ap counted (sym none) ∙ says)
+  reads_first p [] (w ∷ rest) later is a says = let some : (w ∷ rest) ∷ more ≡ [] = ap counted (sym is) ∙ says in cc
+  reads_first p (v ∷ said) (w ∷ rest) later is (r, (s, a)) says =
+      let both : (w ∷ rest) ∷ more ≡ v ∷ said = ap counted (sym is) ∙ says in
+      let first : w ∷ rest ≡ v = cc in
+      passes (read_line p l) r (read_lines n ls) (s.reads l plain (is ∙ first)) ∙ later r said a cc
+
+reads_lines : (n : ℕ) (ls : List PlainLine) (said : List (List (List ℕ))) (p q : Progress) → Reads p said q → filter has_word (map worded ls) ≡ said → AllByRecursion PrintableLine ls
+    → complete q.scheme ≡ true → few_states q.scheme ≡ true → read_lines n ls p ≡ Ok q.scheme
+reads_lines n [] [] p q a says plain whole few = ap (λ (x : Progress). finished n x.scheme) a ∙ cond-true (complete q.scheme) _ _ whole ∙ cond-true (few_states q.scheme) _ _ few
+reads_lines n [] (w ∷ said) p q a says plain whole few = cc
+reads_lines n (l ∷ ls) said p q a says plain whole few =
+    reads_first l ls plain.0 q.scheme q (n + 1) p said (worded l) (λ r ks b more_said. reads_lines (n + 1) ls ks r q b more_said plain.1 whole few) refl a says
+
+-- what a written text is cut into
+
+reads_cut : (ls : List (List (List ℕ))) (p q : Progress) → Reads p ls q → pieces 10 (ended (map parted ls)) ≡ map parted ls
+reads_cut [] p q a = refl
+reads_cut (l ∷ ls) p q (r, (s, a)) = line_again l s.inked (ended (map parted ls)) ∙ ap (λ ps. parted l ∷ ps) (reads_cut ls r q a)
+
+reads_plain : (n : ℕ) (ls : List (List (List ℕ))) (p q : Progress) → Reads p ls q → AllByRecursion PrintableLine (numbered n (map parted ls))
+reads_plain n [] p q a = tt
+reads_plain n (l ∷ ls) p q (r, (s, a)) = (parted_printable l s.inked, reads_plain (n + 1) ls r q a)
+
+reads_say : (n : ℕ) (ls : List (List (List ℕ))) (p q : Progress) → Reads p ls q → filter has_word (map worded (numbered n (map parted ls))) ≡ ls
+reads_say n [] p q a = refl
+reads_say n (l ∷ ls) p q (r, (s, a)) =
+    let more = filter has_word (map worded (numbered (n + 1) (map parted ls))) in
+    ap (λ ws. cond (has_word ws) (ws ∷ more) more) (words_again l s.inked n)
+    ∙ cond-true (has_word l) (l ∷ more) more (some_word l s.some)
+    ∙ ap (λ ks. l ∷ ks) (reads_say (n + 1) ls r q a)
 
 reads_length : (ls : List (List (List ℕ))) (p q : Progress) → Reads p ls q → length (ended (map parted ls)) ≤ 109 * length ls
 reads_length [] p q a = omega arith
@@ -89,7 +146,7 @@ module _ {X : Type 0} (name : X → List ℕ) (done : List X) (x : X) (todo whol
   new_among = new_name (map name done) (name x) (map name todo) (map name whole) names_split fit
 
   named_among : is_name (name x) ≡ true
-  named_among = split_at (map name done) (name x) (map name todo) (map name whole) names_split (λ n. is_name n ≡ true) fit.each
+  named_among = name_tested (name x) (split_at (map name done) (name x) (map name todo) (map name whole) names_split IsName fit.each)
 
 -- lines of one kind, where each declares one more
 module _ {X : Type 0} (words : X → List (List ℕ)) (k : Kind) (low high : ℕ) (least : low ≤ rank k) (most : rank k ≤ high) (model : List X → SchemeModel) (whole : List X)
@@ -112,14 +169,6 @@ last_filled_of c [] p = refl
 last_filled_of c (q ∷ []) p = refl
 last_filled_of c (q ∷ r ∷ ps) p = ap (λ l. q ∷ l) (last_filled_of c (r ∷ ps) p)
 
-objects_fit_at : (ks : List ℕ) (done : List ObjectModel) (o : ObjectModel) (todo : List ObjectModel) → objects_fit ks (done ++ o ∷ todo) ≡ true → values_fit ks o.values ≡ true
-objects_fit_at ks [] o todo h = (and_parts (values_fit ks o.values) (objects_fit ks todo) h).0
-objects_fit_at ks (x ∷ done) o todo h = objects_fit_at ks done o todo (and_parts (values_fit ks x.values) (objects_fit ks (done ++ o ∷ todo)) h).1
-
-rights_fit_at : (n : ℕ) (done : List PolicyModel) (p : PolicyModel) (todo : List PolicyModel) → rights_fit n (done ++ p ∷ todo) ≡ true → p.right < n
-rights_fit_at n [] p todo h = ltb-true p.right n (and_parts (ltb p.right n) (rights_fit n todo) h).0
-rights_fit_at n (x ∷ done) p todo h = rights_fit_at n done p todo (and_parts (ltb x.right n) (rights_fit n (done ++ p ∷ todo)) h).1
-
 sizes_small : (al : List AttributeModel) → All (λ (a : AttributeModel). (1 ≤ a.size) × (a.size ≤ 250)) al → AllByRecursion (λ k. k ≤ 250) (map (λ (a : AttributeModel). a.size) al)
 sizes_small [] all = tt
 sizes_small (a ∷ al) all = ((all 0 a (omega arith)).1, sizes_small al (λ k d h. all (suc k) d (omega arith)))
@@ -139,9 +188,6 @@ module _ (m : SchemeModel) (w : Writable m) where
 
   abbrev with_queries : List Query → SchemeModel
   with_queries qs = record m { queries = qs }
-
-  formed : (objects_fit (sizes_of m) m.objects ≡ true) × (rights_fit (length m.rights) m.policies ≡ true)
-  formed = and_parts (objects_fit (sizes_of m) m.objects) (rights_fit (length m.rights) m.policies) w.formed
 
   attributes_read : (last : Option Kind) → last_rank last ≤ 0 → Leads (record { scheme = attributes_only []; last = last }) (map attribute_words m.attributes) (attributes_only m.attributes) 0 0
   attributes_read last h =
@@ -163,7 +209,7 @@ module _ (m : SchemeModel) (w : Writable m) where
       let few = w.few_rights in
       let some = split_length done b todo m.rights split in
       right_step (record { scheme = with_rights done; last = last' }) b
-      (split_at done b todo m.rights split (λ n. is_name n ≡ true) w.rights_named.each)
+      (name_tested b (split_at done b todo m.rights split IsName w.rights_named.each))
       h' (omega arith)
       (new_name done b todo m.rights split w.rights_named))
       [] m.rights last refl (omega arith) h
@@ -180,7 +226,7 @@ module _ (m : SchemeModel) (w : Writable m) where
       (new_among (λ (x : ObjectModel). x.name) done o todo m.objects split w.objects_named)
       w.few_attributes
       (sizes_small m.attributes w.sizes)
-      (objects_fit_at (sizes_of m) done o todo (ap (objects_fit (sizes_of m)) split ∙ formed.0)))
+      (values_tested m.attributes o.values (split_at done o todo m.objects split (λ (x : ObjectModel). AllZip ValueFits m.attributes x.values) w.values)))
       [] m.objects last refl (omega arith) h
 
   module _ (done : List PolicyModel) (p : PolicyModel) where
@@ -231,7 +277,7 @@ module _ (m : SchemeModel) (w : Writable m) where
       let first = policy_step (record { scheme = with_policies_of done; last = last }) p.name p.right
       (named_among (λ (x : PolicyModel). x.name) done p todo m.policies split w.policies_named)
       w.rights_named
-      (rights_fit_at (length m.rights) done p todo (ap (rights_fit (length m.rights)) split ∙ formed.1))
+      (split_at done p todo m.policies split (λ (x : PolicyModel). x.right < length m.rights) w.policy_rights)
       h (omega arith)
       (new_among (λ (x : PolicyModel). x.name) done p todo m.policies split w.policies_named) in
       let opening : Progress = record { scheme = so_far done p [] []; last = Some kind.Policy } in
@@ -266,9 +312,6 @@ module _ (m : SchemeModel) (w : Writable m) where
       leads_on (record { scheme = with_objects m.objects; last = c }) (flat_map (policy_lines m) m.policies) (map (query_words m) m.queries) (with_policies_of m.policies) m 0 5 0 6
       (policies_read [] m.policies c refl (omega arith))
       (λ e le he. queries_read e (omega arith)))))
-
-  lines_read : read_lines 1 (text_lines (written m)) start ≡ Ok m
-  lines_read = let all = all_read in reads_lines 1 (written_lines m) start (record { scheme = m; last = all.last }) all.reads w.some (le-leb (state_count m) 1048576 w.few_states)
 
   -- a policy has at most 13 lines
   policies_length : (ps : List PolicyModel) → All (PolicyFits (length m.attributes)) ps → length (flat_map (policy_lines m) ps) ≤ 13 * length ps
@@ -305,5 +348,20 @@ module _ (m : SchemeModel) (w : Writable m) where
       let few = lines_length in
       omega arith
 
+  -- a text with the words of the scheme is read
+  pub reads_words : (text : List ℕ) → length text ≤ 65535 → AllByRecursion PrintableLine (text_lines text) → worded_lines text ≡ written_lines m → reading text ≡ Ok m
+  reads_words text short plain says =
+      let all = all_read in
+      cond-true (leb (length text) 65535) _ _ (le-leb (length text) 65535 short)
+      ∙ reads_lines 1 (text_lines text) (written_lines m) start (record { scheme = m; last = all.last }) all.reads says plain (complete_tested m w) (le-leb (state_count m) 1048576 w.few_states)
+
+  written_cut : text_lines (written m) ≡ numbered 1 (map parted (written_lines m))
+  written_cut = let all = all_read in ap (numbered 1) (reads_cut (written_lines m) start (record { scheme = m; last = all.last }) all.reads)
+
 pub reads_back : (m : SchemeModel) → Writable m → reading (written m) ≡ Ok m
-reads_back m w = cond-true (leb (length (written m)) 65535) _ _ (le-leb (length (written m)) 65535 (text_length m w)) ∙ lines_read m w
+reads_back m w =
+    let all = all_read m w in
+    let end : Progress = record { scheme = m; last = all.last } in
+    reads_words m w (written m) (text_length m w)
+    (subst (AllByRecursion PrintableLine) (sym (written_cut m w)) (reads_plain 1 (written_lines m) start end all.reads))
+    (ap (λ ls. filter has_word (map worded ls)) (written_cut m w) ∙ reads_say 1 (written_lines m) start end all.reads)

@@ -6,3 +6,4 @@ pub mod Refusing
 pub mod Readers
 pub mod Candidates
 pub mod Writing
+pub mod Wording

@@ -1,5 +1,6 @@
 -- The text that a scheme is written as, and the limits within which the format can write it.
-use Rattle.std.specs.Prelude.{◌≡◌, ℕ, ◌<◌, ◌≤◌, true, List, [], ◌∷◌, ◌++◌, map, length, Some, None, codes, decimal, All, Option, flat_map, slice_index_or}
+use Rattle.std.specs.Prelude.{◌≡◌, ℕ, ◌<◌, ◌≤◌, ◌⊎◌, List, [], ◌∷◌, ◌++◌, map, length, Some, None, codes, decimal, All, Option, flat_map, slice_index, slice_index_or}
+use Rattle.std.specs.List.{AllZip}
 use Rattle.scheme.specs.declared.terms.Party.{Party}
 use Rattle.scheme.specs.declared.terms.Party.TheVariants.{Subject, Object}
 use Rattle.scheme.specs.declared.terms.Comparison.{Comparison}
@@ -13,20 +14,13 @@ use Rattle.scheme.specs.declared.terms.Action.TheVariants.{Assign, Clear, Add, S
 use Rattle.scheme.specs.declared.entries.Query.{Query}
 use Rattle.scheme.specs.Models.{AttributeModel, ObjectModel, PolicyModel, SchemeModel, attribute_names, object_names, policy_names}
 use Rattle.scheme.specs.Counts.{state_count}
-use Rattle.scheme.specs.WellFormed.{well_formed}
-use Rattle.words.specs.Forms.{is_name}
-use Rattle.text.specs.Reading.{complete}
+use Rattle.words.specs.Joining.{ended}
 
 -- words parted by one space
 abbrev pub parted : List (List ℕ) → List ℕ
 parted [] = []
 parted (w ∷ []) = w
 parted (w ∷ v ∷ ws) = w ++ 32 ∷ parted (v ∷ ws)
-
--- lines, each ended by byte 10
-abbrev pub ended : List (List ℕ) → List ℕ
-ended [] = []
-ended (l ∷ ls) = l ++ 10 ∷ ended ls
 
 -- the name that has a number
 abbrev pub name_at : List (List ℕ) → ℕ → List ℕ
@@ -104,10 +98,28 @@ module _ (m : SchemeModel) where
   abbrev pub written : List ℕ
   written = ended (map parted written_lines)
 
+-- a name, by its bytes: a letter a to z, then letters, digits or _; 1 to 15 bytes
+
+abbrev pub IsLetter : ℕ → Type 0
+IsLetter b = (97 ≤ b) × (b ≤ 122)
+
+abbrev pub IsNameByte : ℕ → Type 0
+IsNameByte b = IsLetter b ⊎ (((48 ≤ b) × (b ≤ 57)) ⊎ (b ≡ 95))
+
+pub record IsName (w : List ℕ) : Type 0 where
+  pub short : length w ≤ 15
+  pub first : IsLetter (slice_index w 0)
+  pub bytes : All IsNameByte w
+
 -- names that are names, no two of them the same
 pub record NamesFit (names : List (List ℕ)) : Type 0 where
-  pub each : All (λ n. is_name n ≡ true) names
+  pub each : All IsName names
   pub distinct : (i j : ℕ) → i < length names → j < length names → name_at names i ≡ name_at names j → i ≡ j
+
+-- null, or a value below the size
+abbrev pub ValueFits : AttributeModel → Option ℕ → Type 0
+ValueFits a None = Unit {0}
+ValueFits a (Some v) = v < a.size
 
 -- a term is of one of so many attributes, and a number is one that a word can write
 
@@ -141,7 +153,9 @@ pub record QueryFits (objects rights : ℕ) (q : Query) : Type 0 where
 
 -- a scheme within the limits
 pub record Writable (m : SchemeModel) : Type 0 where
-  pub some : complete m ≡ true
+  pub some_attribute : 1 ≤ length m.attributes
+  pub some_right : 1 ≤ length m.rights
+  pub some_object : 1 ≤ length m.objects
   pub few_attributes : length m.attributes ≤ 4
   pub few_rights : length m.rights ≤ 16
   pub few_objects : length m.objects ≤ 8
@@ -152,8 +166,9 @@ pub record Writable (m : SchemeModel) : Type 0 where
   pub objects_named : NamesFit (object_names m)
   pub policies_named : NamesFit (policy_names m)
   pub sizes : All (λ (a : AttributeModel). (1 ≤ a.size) × (a.size ≤ 250)) m.attributes
-  -- values below the sizes, and rights of policies below the count
-  pub formed : well_formed m ≡ true
+  -- of each object one value or null for each attribute
+  pub values : All (λ (o : ObjectModel). AllZip ValueFits m.attributes o.values) m.objects
+  pub policy_rights : All (λ (p : PolicyModel). p.right < length m.rights) m.policies
   pub policies : All (PolicyFits (length m.attributes)) m.policies
   pub queries : All (QueryFits (length m.objects) (length m.rights)) m.queries
   pub few_states : state_count m ≤ 1048576

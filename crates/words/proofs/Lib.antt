@@ -1,6 +1,7 @@
 mod Numbers
-mod Pieces
+pub mod Pieces
 mod Searches
 mod Shapes
 pub mod Lengths
 pub mod Turns
+pub mod Joins

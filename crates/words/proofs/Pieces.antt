@@ -1,9 +1,10 @@
 -- The first piece of some bytes, the first line of a text and the first word of a line.
-use Rattle.std.proofs.Common.{◌≡◌, ℕ, suc, ◌+◌, ◌-◌, ◌<◌, ◌≤◌, min, Bool, true, false, cond, not, eqb, List, [], ◌∷◌, length, get_or, take, drop, sym, refl, ap, ◌∙◌, ⊎_elim, arith}
+use Rattle.std.proofs.Common.{◌≡◌, ℕ, zero, suc, ◌+◌, ◌-◌, ◌<◌, ◌≤◌, min, Bool, true, false, cond, not, eqb, List, [], ◌∷◌, length, get_or, take, drop, sym, refl, ap, ◌∙◌, ⊎_elim, arith}
 use Rattle.std.specs.List.{position_or_len}
 use Rattle.std.proofs.lemmas.List.{take_rest, drop_more, drop_all, length-take-le}
 use Rattle.std.proofs.lemmas.List.Sums.{prefix_len-le-length, prefix_len_stops}
 use Rattle.std.proofs.lemmas.Bool.{cases_lt, not-false, not-true, eqb-true, eq-eqb}
+use Rattle.words.specs.Positions.{word_in}
 use Rattle.words.specs.Cuts.{on_first, pieces, numbered, placed}
 
 -- how many bytes stand before the first separator, and how many spaces before the first word
@@ -106,3 +107,10 @@ module _ (n : ℕ) where
 
   pub words_first : (p : ℕ) (xs : List ℕ) (k : ℕ) (from word rest : List ℕ) (e : ℕ) → start xs < length xs → start xs ≡ k → from ≡ drop k xs → e ≡ end 32 from → word ≡ take e from → rest ≡ drop e from → placed n p (pieces 32 xs) ≡ record { bytes = word; line = n; place = p + k } ∷ placed n (p + k + length word) (pieces 32 rest)
   words_first p xs k from word rest e some at is ends front back = skipped p xs ∙ rw (front, back, ends, is, ← at) (word_at (p + start xs) (drop (start xs) xs) (some_word xs some))
+
+  -- every word is on the line that it is cut from
+  pub on_its_line : (p : ℕ) (ps : List (List ℕ)) (i : ℕ) → i < length (placed n p ps) → (word_in (placed n p ps) i).line ≡ n
+  on_its_line p [] i within = absurd (omega arith)
+  on_its_line p ([] ∷ ps) i within = on_its_line (suc p) ps i within
+  on_its_line p ((b ∷ w) ∷ ps) zero within = refl
+  on_its_line p ((b ∷ w) ∷ ps) (suc i) within = on_its_line (p + suc (length (b ∷ w))) ps i (omega arith)

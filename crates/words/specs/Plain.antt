@@ -1,10 +1,14 @@
--- What the words of a line must be before anything else is asked of it.
-use Rattle.std.specs.Prelude.{ℕ, ◌+◌, Bool, cond, ◌&&◌, length, Ok, Err, Result, nat_le}
+-- What a text must be before its lines are looked at, and the words of a line before anything else is asked.
+use Rattle.std.specs.Prelude.{ℕ, ◌+◌, Bool, cond, ◌&&◌, List, length, Ok, Err, Result, nat_le}
 use Rattle.words.specs.declared.fault.WordFault.{WordFault}
-use Rattle.words.specs.declared.fault.WordFault.TheVariants.{Byte, LongWord}
+use Rattle.words.specs.declared.fault.WordFault.TheVariants.{LongText, Byte, LongWord}
 use Rattle.words.specs.Outcomes.{and_then, in_turn}
 use Rattle.words.specs.Positions.{PlainLine, PlainWord, spot_of}
 use Rattle.words.specs.Cuts.{words_of}
+
+-- a text has at most 65,535 bytes
+abbrev pub short_text : List ℕ → Result (Unit {0}) WordFault
+short_text text = cond (nat_le (length text) 65535) (Ok tt) (Err LongText)
 
 abbrev pub printable : ℕ → Bool
 printable b = nat_le 32 b && nat_le b 126

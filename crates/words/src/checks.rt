@@ -1,12 +1,24 @@
-// What the words of a line must be before anything else is asked of it.
+// What a text must be before its lines are looked at, and the words of a line before anything else is asked.
 ghost use Rattle.std.specs.Prelude.{◌≡◌};
 ghost use Rattle.words.specs.Positions.{line_of};
-ghost use Rattle.words.specs.Plain.{printable, plain_bytes, short_words, plain_line};
+ghost use Rattle.words.specs.Plain.{short_text, printable, plain_bytes, short_words, plain_line};
 
 use crate::fault::WordFault;
 use crate::position::{Line, Spot};
 
+const MAX_TEXT: usize = 65_535;
+
 const MAX_WORD: usize = 17;
+
+// A text has at most 65,535 bytes.
+pub fn check_text(text: &[u8]) -> Result<(), WordFault>
+    ensures { result ≡ short_text text.now }
+{
+    if text.len() > MAX_TEXT {
+        return Err(WordFault::LongText);
+    }
+    Ok(())
+}
 
 fn is_printable(b: u8) -> bool
     ensures { result ≡ printable b }

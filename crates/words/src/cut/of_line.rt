@@ -1,8 +1,9 @@
 // The words of a line.
 ghost use Rattle.std.specs.Prelude.{◌≡◌, length};
 ghost use Rattle.std.specs.Iterator.{YieldsFirstBy, at_most};
-ghost use Rattle.words.specs.Positions.{word_of, word_in};
+ghost use Rattle.words.specs.Positions.{line_of, word_of, word_in};
 ghost use Rattle.words.specs.Cuts.{line_words, coming_words};
+ghost use Rattle.words.specs.Joining.{CutWhereSpaced};
 
 use super::Words;
 use super::pieces::piece_end;
@@ -41,7 +42,8 @@ impl<'a> Iterator for Words<'a> {
 
 impl<'a> Line<'a> {
     pub fn words(self) -> Words<'a>
-        ensures { coming_words result ≡ line_words self.entry }
+        ensures result { coming_words result ≡ line_words self.entry }
+        ensures cut_where_spaced { CutWhereSpaced (line_of self.entry) (line_words self.entry) }
     {
         Words {
             rest: self.bytes,

@@ -3,6 +3,7 @@ ghost use Rattle.std.specs.Prelude.{◌≡◌, length};
 ghost use Rattle.std.specs.Iterator.{YieldsFirstBy, at_most};
 ghost use Rattle.words.specs.Positions.{line_of};
 ghost use Rattle.words.specs.Cuts.{text_lines, coming_lines};
+ghost use Rattle.words.specs.Joining.{CutWhereJoined};
 
 use super::Lines;
 use super::pieces::piece_end;
@@ -10,7 +11,8 @@ use crate::position::Line;
 
 impl<'a> Lines<'a> {
     pub fn of(text: &'a [u8]) -> Lines<'a>
-        ensures { coming_lines result ≡ text_lines text.now }
+        ensures result { coming_lines result ≡ text_lines text.now }
+        ensures cut_where_joined { CutWhereJoined text.now (text_lines text.now) }
     {
         Lines {
             rest: text,

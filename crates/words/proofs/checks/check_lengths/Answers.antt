@@ -14,12 +14,12 @@ pub returns-in-Some : goal.returns-in-Some
 returns-in-Some c =
     let ws = line_words c.args.line in
     let w = word_of c.in-Some.word in
-    let found = find_from_yields_List (λ w. not (short_word w)) c.find.new.self _ c.find.result c.find.ensures.ran (YieldsList-from_first word_of coming_words ws c.words.ensures) (λ x b q k. search (rules, tests)) in
+    let found = find_from_yields_List (λ w. not (short_word w)) c.find.new.self _ c.find.result c.find.ensures.ran (YieldsList-from_first word_of coming_words ws c.words.ensures.result) (λ x b q k. search (rules, tests)) in
     let is = find_some _ ws w no_word (sym found ∙ ap (option_map word_of) c.in-Some.is) in
     sym (first_refused short_word (λ _ w. LongWord (spot_of w)) 0 ws no_word is.0 ∙ ap (λ w. Err (LongWord (spot_of w))) is.1)
 
 pub returns-in-None : goal.returns-in-None
 returns-in-None c =
     let ws = line_words c.args.line in
-    let found = find_from_yields_List (λ w. not (short_word w)) c.find.new.self _ c.find.result c.find.ensures.ran (YieldsList-from_first word_of coming_words ws c.words.ensures) (λ x b q k. search (rules, tests)) in
+    let found = find_from_yields_List (λ w. not (short_word w)) c.find.new.self _ c.find.result c.find.ensures.ran (YieldsList-from_first word_of coming_words ws c.words.ensures.result) (λ x b q k. search (rules, tests)) in
     sym (all_passed short_word (λ _ w. LongWord (spot_of w)) 0 ws (find_none _ ws no_word (sym found ∙ ap (option_map word_of) c.in-None.is)))

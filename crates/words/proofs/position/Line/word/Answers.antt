@@ -15,5 +15,5 @@ word_or (Some w) d = refl
 pub returns : goal.returns
 returns c =
     let ws = line_words c.args.self in
-    let nth = nth_from_yields_List {steps = YieldsFirstBy word_of coming_words} {s = c.words.result} c.nth.result c.nth.new.self c.args.index c.nth.ensures.ran (YieldsList-from_first word_of coming_words ws c.words.ensures) in
+    let nth = nth_from_yields_List {steps = YieldsFirstBy word_of coming_words} {s = c.words.result} c.nth.result c.nth.new.self c.args.index c.nth.ensures.ran (YieldsList-from_first word_of coming_words ws c.words.ensures.result) in
     ap word_of c.unwrap_or.ensures ∙ word_or c.nth.result _ ∙ ap (λ r. unwrap_or r no_word) nth ∙ unwrap_or-slice_get ws c.args.index no_word
