@@ -1,23 +1,40 @@
 // Reads a scheme text from standard input and prints its report.
+//
+// failure  what can go wrong, as sentences
+// print    the report of all that a reader has, printed to a writer
 #![tactic(auto)]
 
-use input::read_up_to;
-use report::annex;
-use std::io;
-use std::io::Write;
+mod failure;
+mod print;
+#[cfg(test)]
+mod tests;
 
-// One byte more than the longest text: enough to know that a text is too long. A buffer of fixed length,
-// which needs no memory.
-const ENOUGH: usize = 65_536;
+use failure::Failure;
+use print::print_report;
+use std::env::FillError;
+use std::process::ExitCode;
+use std::rt::Env;
 
-fn run(rt: &HostRuntime) -> io::Result<()> {
-    let mut buffer = [0u8; ENOUGH];
-    let text = read_up_to(&mut rt.stdin(), &mut buffer)?;
-    let mut report = Vec::new(rt.alloc());
-    annex(&mut report, text)?;
-    rt.stdout().write_all(report.as_slice())
+// The program takes no argument behind its own name.
+fn refuse_arguments<R: Env>(rt: &R) -> Result<(), Failure> {
+    match rt.arg(1, &mut []) {
+        Err(FillError::NotPresent) => Ok(()),
+        _ => Err(Failure::Arguments),
+    }
 }
 
-fn main(rt: HostRuntime) -> io::Result<()> {
-    run(&rt)
+fn run(rt: &HostRuntime) -> Result<(), Failure> {
+    refuse_arguments(rt)?;
+    print_report(&mut rt.stdin(), &mut rt.stdout(), rt.alloc())
+}
+
+fn main(rt: HostRuntime) -> ExitCode {
+    match run(&rt) {
+        Ok(()) => ExitCode::SUCCESS,
+        Err(failure) => {
+            // Where standard error fails too, the status still tells.
+            let _ = eprintln!(rt; "annex: {failure}");
+            ExitCode::FAILURE
+        }
+    }
 }

@@ -26,8 +26,12 @@ pub record Question : Type 0 where
 abbrev pub asks : System → Permission → Result Question Refused
 asks system q = Ok (record { system = system; permission = q })
 
+-- the greatest number of 32 bits, which is that of no refusal: the text has no such query
+abbrev pub no_query : Refused
+no_query = refused 4294967295
+
 abbrev pub question_at : System → Option Permission → Result Question Refused
-question_at system None = Err (refused 30)
+question_at system None = Err no_query
 question_at system (Some q) = asks system q
 
 abbrev pub question : Result SchemeModel SchemeFault → ℕ → Result Question Refused

@@ -1,13 +1,15 @@
 // The analysis of a text's query, for C to call: bench/ measures it.
 #![tactic(auto)]
 
-ghost use Rattle.std.specs.Prelude.{◌≡◌, length};
+ghost use Rattle.std.specs.Prelude.{◌≡◌, ◌≤◌, length, Ok};
 ghost use Rattle.std.specs.List.{slice_get};
 ghost use Rattle.std.specs.Option.{option_map};
 ghost use Rattle.protection.specs.Answers.{told};
 ghost use Rattle.protection.specs.Meaning.{meaning};
+ghost use Rattle.scheme.specs.Models.{SchemeModel};
 ghost use Rattle.record.specs.Systems.{permission_asked};
 ghost use Rattle.record.specs.Schemes.{scheme_of};
+ghost use Rattle.text.specs.Reading.{reading};
 ghost use Rattle.bench_entry.specs.Questions.{asked_by, asks, reply, number_of, answer_left, marks_left, found_left, witness_left};
 
 pub mod answer;
@@ -18,8 +20,11 @@ use record::{Scheme, permission_asked};
 use text::read::read;
 use walk::Found;
 
+// The answer where a text has no such query: the greatest number, which is that of no refusal.
+const NO_SUCH_QUERY: u32 = u32::MAX;
+
 // Analyses query number `query` of a text. Answers 0, or the number of the refusal: that of the
-// text, that of the analysis, or 30 where the text has no such query.
+// text, that of the analysis, or `NO_SUCH_QUERY`.
 #[unsafe(no_mangle)]
 pub extern "C" fn bench_analyse(
     text: &[u8],
@@ -30,6 +35,7 @@ pub extern "C" fn bench_analyse(
     answer: &mut Answer,
 ) -> u32
     ensures number { result ≡ number_of (reply (asked_by text.now query) (length marks.old) (length found.old) (length witness.old)) }
+    ensures no_such_query { (m : SchemeModel) → reading text.now ≡ Ok m → length m.queries ≤ query → result ≡ 4294967295 }
     ensures answer { answer.new ≡ answer_left (reply (asked_by text.now query) (length marks.old) (length found.old) (length witness.old)) answer.old }
     ensures marks { marks.new ≡ marks_left (asked_by text.now query) result marks.old }
     ensures found { found.new ≡ found_left (asked_by text.now query) result found.old }
@@ -40,7 +46,7 @@ pub extern "C" fn bench_analyse(
         return fault.report().number;
     }
     let Some(q) = asked(&scheme, query) else {
-        return Refusal::OutOfCounts.number();
+        return NO_SUCH_QUERY;
     };
     ask(&scheme, q, marks, found, witness, answer)
 }

@@ -30,3 +30,6 @@ pub fn read_up_to<'a, R: Read>(input: &mut R, buffer: &'a mut [u8]) -> io::Resul
     }
     Ok(&buffer[..len])
 }
+
+#[cfg(test)]
+mod tests;

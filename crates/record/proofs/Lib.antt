@@ -8,4 +8,5 @@ mod Exchanging
 mod Stepping
 pub mod Leading
 mod Closing
+mod Numbered
 mod Labelling

@@ -2,6 +2,7 @@ pub mod States
 pub mod Moves
 pub mod Accepted
 pub mod Systems
+pub mod Numbers
 pub mod Relation
 pub mod Places
 pub mod Numberings

@@ -1,6 +1,7 @@
 -- The verdict of an analysis is legible, with the moves of its witness.
-use Rattle.std.proofs.Common.{◌≡◌, ℕ, ◌*◌, ◌^◌, ◌<◌, ◌≤◌, Bool, true, ◌&&◌, ltb, List, [], ◌∷◌, length, take, drop, is_some, Some, All, refl, sym, ap, subst, mul-le-mul, arith}
-use Rattle.std.proofs.Math.Seq.{take-append_seam}
+use Rattle.std.proofs.Common.{◌≡◌, ℕ, ◌*◌, ◌^◌, ◌<◌, ◌≤◌, Bool, true, ◌&&◌, ltb, List, [], ◌∷◌, ◌++◌, length, is_some, Some, All, refl, sym, ap, ◌∙◌, subst, append-nil, mul-le-mul, arith}
+use Rattle.std.proofs.Math.Seq.{drop-nil}
+use Rattle.std.proofs.lemmas.List.{take_all}
 use Rattle.std.proofs.lemmas.List.Elements.{All-nil, All-cons, All-push}
 use Rattle.std.proofs.lemmas.Bool.{and_parts, ltb-true}
 use Rattle.scheme.specs.declared.entries.Query.{Query}
@@ -62,26 +63,26 @@ module _ (walk : Walk) (bounds : Bounds walk) (stop : ℕ → Bool) where
       let listed = size walk bounds stop found (length found) 0 kept in
       record { found = omega (arith, bounds.states_few); tried = omega (arith, product (length found) listed) })
 
--- the witness is as long as the verdict says
-pub witness_length : (o : Outcome) → witness_of o ≡ take (said_of o).length (over (witness_of o) [])
-witness_length (stopped found tried witness) = sym (take-append_seam witness (drop (length witness) []))
-witness_length (exhausted found tried) = refl
+-- what is written over no entries is all that there is
+pub over_nothing : {X : Type 0} (xs : List X) → xs ≡ over xs []
+over_nothing xs = sym (ap (λ l. xs ++ l) (drop-nil (length xs)) ∙ append-nil xs)
 
 module _ (m : SchemeModel) (q : Query) (asked : within (length m.objects) (length m.rights) (permission_asked q) ≡ true) where
-  query_fits : QueryFits (length m.objects) (length m.rights) q
+  pub query_fits : QueryFits (length m.objects) (length m.rights) q
   query_fits =
       let subject = and_parts (ltb q.subject (length m.objects)) (ltb q.object (length m.objects) && ltb q.right (length m.rights)) asked in
       let object = and_parts (ltb q.object (length m.objects)) (ltb q.right (length m.rights)) subject.1 in
       record { subject = ltb-true q.subject (length m.objects) subject.0; object = ltb-true q.object (length m.objects) object.0; right = ltb-true q.right (length m.rights) object.1 }
 
   outcome_legible : (bounds : Bounds (walk_of m)) (stop : ℕ → Bool) (o : Outcome) → Counted (said_of o)
-      → Means (walk_of m) stop (Some (ending_of o)) (over (found_of o) []) (over (witness_of o) []) → Legible m q (said_of o) (take (said_of o).length (over (witness_of o) []))
+      → Means (walk_of m) stop (Some (ending_of o)) (found_of o) (witness_of o) → Legible m q (said_of o) (witness_of o)
   outcome_legible bounds stop (stopped found tried witness) counts means = record {
     asked = query_fits;
     found = counts.found;
     tried = counts.tried;
-    as_many = ap length (witness_length (stopped found tried witness));
-    of_scheme = meets_below (walk_of m) bounds stop _ means.meets;
+    as_many = refl;
+    of_scheme =
+        subst (All (λ v. v < move_count m)) (take_all (length witness) witness (omega arith)) (meets_below (walk_of m) bounds stop _ means.meets);
   }
   outcome_legible bounds stop (exhausted found tried) counts means = record {
     asked = query_fits;
@@ -91,7 +92,8 @@ module _ (m : SchemeModel) (q : Query) (asked : within (length m.objects) (lengt
     of_scheme = All-nil (λ v. v < move_count m);
   }
 
-  pub legible : (bounds : Bounds (walk_of m)) (stop : ℕ → Bool) → let o = search_from (walk_of m) stop in Legible m q (said_of o) (take (said_of o).length (over (witness_of o) []))
+  pub legible : (bounds : Bounds (walk_of m)) (stop : ℕ → Bool) → let o = search_from (walk_of m) stop in Legible m q (said_of o) (witness_of o)
   legible bounds stop =
       let o = search_from (walk_of m) stop in
-      outcome_legible bounds stop o (counted (walk_of m) bounds stop) (means_of (walk_of m) bounds stop (ending_of o) [] _ [] _ refl refl refl)
+      outcome_legible bounds stop o (counted (walk_of m) bounds stop)
+      (means_of (walk_of m) bounds stop (ending_of o) [] (found_of o) [] (witness_of o) refl (over_nothing (found_of o)) (over_nothing (witness_of o)))

@@ -2,4 +2,4 @@ mod Named
 mod Spelled
 mod Readings
 mod Legible
-mod Promises
+pub mod Printed

@@ -17,8 +17,9 @@ use Rattle.report.specs.Names.{object_name, right_name}
 use Rattle.report.specs.Moves.{by_line}
 use Rattle.report.specs.Answers.{refused_line, query_line, verdict_line}
 use Rattle.report.specs.Reports.{scheme_line}
+use Rattle.report.specs.Printed.{verdict_word}
 use Rattle.report.specs.Readings.{Answer, verdict, refusal, lines_of, Numbered, Fits, ReadOneWay}
-use Rattle.report.proofs.Spelled.{decimal_solid, spelled_solid, verdict_word, verdict_solid, first, verdict_one, no_verdict, object_solid, object_one, right_solid, right_one, move_words, move_solid, move_one}
+use Rattle.report.proofs.Spelled.{decimal_solid, spelled_solid, verdict_solid, first, verdict_one, no_verdict, object_solid, object_one, right_solid, right_one, move_words, move_solid, move_one}
 
 -- refusals
 
@@ -59,7 +60,7 @@ module _ (m : SchemeModel) (w : Writable m) where
   moves_apart (v ∷ vs) (u ∷ us) r s low low' end end' same =
       let h = All-head Low v vs low in
       let k = All-head Low u us low' in
-      let cut = lines_apart (codes "by") (codes "by") (move_words m w v) (move_words m w u) (flat_map (by_line m) vs ++ r) (flat_map (by_line m) us ++ s) (move_solid m w v h) (move_solid m w u k)
+      let cut = lines_apart (codes "by") (codes "by") (move_words m v) (move_words m u) (flat_map (by_line m) vs ++ r) (flat_map (by_line m) us ++ s) (move_solid m w v h) (move_solid m w u k)
       (sym (append_assoc (by_line m v) (flat_map (by_line m) vs) r) ∙ same ∙ append_assoc (by_line m u) (flat_map (by_line m) us) s) in
       let rest = moves_apart vs us r s (All-tail Low v vs low) (All-tail Low u us low') end end' cut.1.1 in
       (ap₂ (λ x l. x ∷ l) (move_one m w v u h k cut.1.0) rest.0, rest.1)

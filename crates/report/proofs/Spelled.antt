@@ -1,36 +1,29 @@
 -- The words that are printed: none has a space or a line end, and each is the word of one thing.
-use Rattle.std.proofs.Common.{◌≡◌, ℕ, ◌/◌, ◌%◌, ◌+◌, ◌*◌, ◌^◌, ◌<◌, Bool, true, false, cond, ◌&&◌, ltb, leb, List, [], ◌∷◌, length, get_or, codes, decimal, sym, refl, ap, ◌∙◌, arith}
+use Rattle.std.proofs.Common.{◌≡◌, ℕ, ◌/◌, ◌%◌, ◌+◌, ◌*◌, ◌^◌, ◌<◌, Bool, true, false, ltb, List, [], ◌∷◌, length, get_or, codes, decimal, All, sym, refl, ap, ◌∙◌, inl, inr, arith}
 use Rattle.std.specs.List.{AllByRecursion, list_all}
 use Rattle.std.specs.Str.Parse.{AllDigits}
 use Rattle.std.proofs.lemmas.List.{length-map}
+use Rattle.std.proofs.lemmas.List.Elements.{All-head, All-tail}
 use Rattle.std.proofs.lemmas.Bool.{and_parts, ltb-true}
-use Rattle.std.proofs.lemmas.Bool.Decides.{nat_tests}
 use Rattle.std.proofs.lemmas.Fmt.{decimal_is_IsNumeral}
 use Rattle.std.proofs.lemmas.Str.Parse.{digit_from_value}
 use Rattle.scheme.specs.Models.{ObjectModel, PolicyModel, SchemeModel, object_names, policy_names}
 use Rattle.scheme.specs.Counts.{move_count}
-use Rattle.words.specs.Forms.{lower, name_byte, is_name}
 use Rattle.record.proofs.MoveNumbers.{whole}
 use Rattle.record.proofs.Leading.{in_scheme}
-use Rattle.text.specs.Writing.{name_at, NamesFit, Writable}
+use Rattle.text.specs.Writing.{name_at, IsNameByte, NamesFit, Writable}
 use Rattle.render.proofs.Apart.{Solid}
 use Rattle.report.specs.Names.{object_name, right_name, policy_name}
+use Rattle.report.specs.Printed.{verdict_word}
 
-bytes_solid : (bs : List ℕ) → list_all name_byte bs ≡ true → Solid bs
-bytes_solid [] h = tt
-bytes_solid (b ∷ bs) h = let parts = and_parts (name_byte b) (list_all name_byte bs) h in (inked b parts.0, bytes_solid bs parts.1)
+bytes_solid : (bs : List ℕ) → All IsNameByte bs → Solid bs
+bytes_solid [] all = tt
+bytes_solid (b ∷ bs) all = (inked b (All-head IsNameByte b bs all), bytes_solid bs (All-tail IsNameByte b bs all))
   where
-    inked : (b : ℕ) → name_byte b ≡ true → 32 < b
-    inked b h = grind (arith, nat_tests)
-
-name_solid : (w : List ℕ) → is_name w ≡ true → Solid w
-name_solid [] h = tt
-name_solid (b ∷ bs) h =
-    let parts = and_parts (lower b) (leb (length bs) 14 && list_all name_byte bs) h in
-    (letter b parts.0, bytes_solid bs (and_parts (leb (length bs) 14) (list_all name_byte bs) parts.1).1)
-  where
-    letter : (b : ℕ) → lower b ≡ true → 32 < b
-    letter b h = grind (arith, nat_tests)
+    inked : (b : ℕ) → IsNameByte b → 32 < b
+    inked b (inl letter) = let low = letter.0 in omega arith
+    inked b (inr (inl digit)) = let low = digit.0 in omega arith
+    inked b (inr (inr is)) = omega arith
 
 digits_solid : (ds : List ℕ) → AllDigits 10 ds → Solid ds
 digits_solid [] h = tt
@@ -45,9 +38,6 @@ spelled_solid [] h = tt
 spelled_solid (b ∷ bs) h = let parts = and_parts (ltb 32 b) (list_all (ltb 32) bs) h in (ltb-true 32 b parts.0, spelled_solid bs parts.1)
 
 -- the word of a verdict
-
-abbrev pub verdict_word : Bool → List ℕ
-verdict_word leaks = cond leaks (codes "leak") (codes "never")
 
 pub verdict_solid : (leaks : Bool) → Solid (verdict_word leaks)
 verdict_solid true = spelled_solid (codes "leak") refl
@@ -71,13 +61,19 @@ no_verdict false same = omega (arith, ap first same)
 
 module _ (names : List (List ℕ)) (fit : NamesFit names) (count : ℕ) (long : length names ≡ count) where
   named_solid : (i : ℕ) → i < count → Solid (name_at names i)
-  named_solid i h = name_solid (name_at names i) (fit.each i [] (omega arith))
+  named_solid i h = bytes_solid (name_at names i) (fit.each i [] (omega arith)).bytes
 
   named_one : (i j : ℕ) → i < count → j < count → name_at names i ≡ name_at names j → i ≡ j
   named_one i j h k same = fit.distinct i j (omega arith) (omega arith) same
 
+-- the three names of a move
+abbrev pub move_words : SchemeModel → ℕ → List (List ℕ)
+move_words m v =
+    let n = length m.objects in
+    policy_name m (v / (n * n)) ∷ object_name m (v / n % n) ∷ object_name m (v % n) ∷ []
+
 module _ (m : SchemeModel) (w : Writable m) where
-  abbrev pub n : ℕ
+  abbrev n : ℕ
   n = length m.objects
 
   objects_long : length (object_names m) ≡ n
@@ -104,17 +100,12 @@ module _ (m : SchemeModel) (w : Writable m) where
   policy_one : (i j : ℕ) → i < length m.policies → j < length m.policies → policy_name m i ≡ policy_name m j → i ≡ j
   policy_one = named_one (policy_names m) w.policies_named (length m.policies) policies_long
 
-  -- the three names of a move
-
-  abbrev pub move_words : ℕ → List (List ℕ)
-  move_words v = policy_name m (v / (n * n)) ∷ object_name m (v / n % n) ∷ object_name m (v % n) ∷ []
-
-  pub move_solid : (v : ℕ) → v < move_count m → AllByRecursion Solid (codes "by" ∷ move_words v)
+  pub move_solid : (v : ℕ) → v < move_count m → AllByRecursion Solid (codes "by" ∷ move_words m v)
   move_solid v h =
       let parts = in_scheme m v h in
       (spelled_solid (codes "by") refl, (policy_solid (v / (n * n)) parts.policy, (object_solid (v / n % n) parts.subject, (object_solid (v % n) parts.object, tt))))
 
-  pub move_one : (v u : ℕ) → v < move_count m → u < move_count m → move_words v ≡ move_words u → v ≡ u
+  pub move_one : (v u : ℕ) → v < move_count m → u < move_count m → move_words m v ≡ move_words m u → v ≡ u
   move_one v u h k same =
       let parts = in_scheme m v h in
       let parts' = in_scheme m u k in

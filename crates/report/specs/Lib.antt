@@ -3,4 +3,4 @@ pub mod Moves
 pub mod Answers
 pub mod Reports
 pub mod Readings
-pub mod Promises
+pub mod Printed

@@ -1,5 +1,7 @@
 // The scheme record behind the interface of walks and protection systems.
+ghost use Rattle.std.specs.Prelude.{◌≡◌, length};
 ghost use Rattle.record.specs.Systems.{walk_of, labels_of};
+ghost use Rattle.record.specs.Numbers.{NumbersStates, NumbersMoves, StartsAsDeclared};
 ghost use Rattle.record.specs.Schemes.{scheme_of};
 ghost use Rattle.record.specs.SystemLaws.{scheme_bounds, scheme_counts};
 
@@ -12,17 +14,30 @@ impl Walk for Scheme {
 
     ghost bounds = { λ s. scheme_bounds s };
 
+    // `numbers_the_states`: the numbers of the states are just those below it.
     #[tactic(auto, using(crate::proofs::Dimensions::states_counted))]
-    fn states(&self) -> u32 {
+    fn states(&self) -> u32
+        ensures value { result ≡ (walk_of (scheme_of self.now)).states }
+        ensures numbers_the_states { NumbersStates (scheme_of self.now) result }
+    {
         self.numbering.states()
     }
 
-    fn start(&self) -> u32 {
+    // `as_declared`: in the state that `decode` gives for it, each object is there, with the values of its line.
+    #[tactic(auto, using(crate::proofs::Numbered::starts_as_declared))]
+    fn start(&self) -> u32
+        ensures value { result ≡ (walk_of (scheme_of self.now)).start }
+        ensures as_declared { StartsAsDeclared (scheme_of self.now) result }
+    {
         self.start
     }
 
+    // `numbers_the_moves`: the numbers of the moves are just those below it.
     #[tactic(auto, using(crate::specs::SystemLaws::moves_counted))]
-    fn moves(&self) -> u32 {
+    fn moves(&self) -> u32
+        ensures value { result ≡ (walk_of (scheme_of self.now)).moves }
+        ensures numbers_the_moves { NumbersMoves (scheme_of self.now) result }
+    {
         self.moves.as_slice().len() as u32
     }
 
@@ -36,11 +51,17 @@ impl System for Scheme {
 
     ghost counts = { λ s. scheme_counts s };
 
-    fn objects(&self) -> u32 {
+    fn objects(&self) -> u32
+        ensures value { result ≡ (labels_of (scheme_of self.now)).objects }
+        ensures counts_the_objects { result ≡ length (scheme_of self.now).objects }
+    {
         self.draft.objects().len() as u32
     }
 
-    fn rights(&self) -> u32 {
+    fn rights(&self) -> u32
+        ensures value { result ≡ (labels_of (scheme_of self.now)).rights }
+        ensures counts_the_rights { result ≡ length (scheme_of self.now).rights }
+    {
         self.draft.rights().len() as u32
     }
 
