@@ -1,6 +1,6 @@
 #!/usr/bin/env python3
 """Test cases for the reader: texts with the first line of their report, worked out by hand from
-docs/TEXT.md and docs/REFUSALS.md (line_cases.py and scheme_cases.py).
+docs/TEXT.md and docs/REFUSALS.md (line_cases.py, misspelled_cases.py and scheme_cases.py).
 
     cases.py    checks every case against the reference program annex.py
 
@@ -13,9 +13,10 @@ import sys
 sys.dont_write_bytecode = True
 import annex  # noqa: E402
 from line_cases import COUNTS, FORMS, LINES, LONG_CASES, ORDER            # noqa: E402
+from misspelled_cases import MISSPELLED                                   # noqa: E402
 from scheme_cases import ACCEPTED, ENDS, MOSTS, NAMES, RANKS              # noqa: E402
 
-CASES = LINES + ORDER + COUNTS + FORMS + ACCEPTED + MOSTS + NAMES + RANKS + ENDS
+CASES = LINES + ORDER + COUNTS + FORMS + MISSPELLED + ACCEPTED + MOSTS + NAMES + RANKS + ENDS
 
 
 def differing(cases, program, end):

@@ -1,0 +1,4 @@
+mod OfTexts
+mod OfSchemes
+mod OfSystems
+mod OfReports

@@ -1,5 +1,5 @@
-// The worked examples of the documents, as one statement about the definitions; and texts too long to
-// stand in a file of cases.
+// Worked examples of what the documents say, by subject, as one statement about the definitions; and
+// texts too long to stand in a file of cases.
 #![tactic(auto)]
 
 ghost use Rattle.render.specs.Appended.{Appended};
