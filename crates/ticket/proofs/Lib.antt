@@ -1,0 +1,2 @@
+mod Rides
+mod Verdicts

@@ -1,0 +1,3 @@
+pub mod Ticket
+pub mod TicketLaws
+pub mod Questions
