@@ -2,9 +2,10 @@
 //
 //     harness RUNS SCHEME...
 //
-// Each query of each scheme is analysed RUNS times by both, in turn, and the least time of each counts. The answers,
-// the witness and the tables must agree. A line for each scheme; the last line is `ratio X`, the geometric mean over
-// the schemes of the time of the proved code by the time of the C code.
+// Each query of each scheme is analysed RUNS times by both, in turn, and the least time of each counts: processor time
+// of this thread, so that what else the machine does weighs less. The answers, the witness and the tables must agree. A
+// line for each scheme; the last line is `ratio X`, the geometric mean over the schemes of the time of the proved code
+// by the time of the C code.
 #include "search.h"
 
 #include <math.h>
@@ -44,9 +45,10 @@ static size_t read_text(const char *path, uint8_t *text) {
     return len;
 }
 
+// Of processor time, spent by this thread so far.
 static double seconds(void) {
     struct timespec t;
-    clock_gettime(CLOCK_MONOTONIC, &t);
+    clock_gettime(CLOCK_THREAD_CPUTIME_ID, &t);
     return (double)t.tv_sec + 1e-9 * (double)t.tv_nsec;
 }
 

@@ -93,12 +93,19 @@ def other_name(rng, lines, i):
 
 
 def value(rng, lines, i):
-    """A number for a number, or for a null sign."""
+    """A size next to its bounds, or a value next to the size of its attribute, in place of a number or a null sign."""
     if not lines[i] or lines[i][0] not in (b"attr", b"object"):
         i = rng.choice([j for j, line in enumerate(lines) if line and line[0] in (b"attr", b"object")] or [i])
+    sizes = [int(line[2]) for line in lines if len(line) > 2 and line[0] == b"attr" and line[2].isdigit()]
     places = [j for j, word in enumerate(lines[i]) if j > 0 and (word.isdigit() or word == b"-")]
-    if places:
-        lines[i][rng.choice(places)] = number(rng.choice([0, 1, 2, 3, 4, 8, 13, 41, 249, 250, 251, 255]))
+    if not places:
+        return i
+    j = rng.choice(places)
+    if lines[i][0] == b"object" and 2 <= j < len(sizes) + 2:
+        size = min(sizes[j - 2], 254)
+        lines[i][j] = number(rng.choice([max(size - 1, 0), size, size, size + 1, 255]))
+    else:
+        lines[i][j] = number(rng.choice([0, 0, 1, 2, 41, 250, 251, 251, 255]))
     return i
 
 

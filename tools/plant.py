@@ -13,15 +13,18 @@ where OLD stands once in the file. A bug that changes nothing that a caller can 
     equivalent: OLD ==> NEW
 
 below a line `# REASON`. The file is put back after each check. A survivor is a bug with which the crate is still
-proved and, if it is a program, still prints its file stdout of its file stdin; of an equivalent one it is said
-whether it is so, and it counts in neither sum.
+proved, still passes its tests and, if it is a program, still prints its file stdout of its file stdin; of an
+equivalent one it is said whether it is so, and it counts in neither sum. The environment variable RT names the
+command that checks, if not rt.
 """
+import glob
 import os
 import subprocess
 import sys
 import time
 
 LISTS = os.path.join(os.path.dirname(__file__), "bugs")
+RT = os.environ.get("RT", "rt")
 EQUIVALENT = "equivalent: "
 
 
@@ -46,17 +49,47 @@ def first_error(text):
     return "?"
 
 
-def check(crate):
-    """Whether the crate is proved and, if it is a program, prints what it must; and what was said."""
-    folder = "crates/" + crate
-    r = subprocess.run(["rt", "check"], cwd=folder, capture_output=True, text=True)
+def prove(folder):
+    """Whether the crate in a folder is proved, and what the check said."""
+    r = subprocess.run([RT, "check"], cwd=folder, capture_output=True, text=True)
     text = r.stdout + r.stderr
     verdicts = [line for line in text.splitlines() if line.startswith("logic=")]
-    proved = bool(verdicts) and verdicts[-1].startswith("logic=proved")
-    if proved and os.path.exists(folder + "/src/main.rt"):
-        r = subprocess.run(["rt", "try"], cwd=folder, capture_output=True, stdin=open(folder + "/stdin", "rb"))
-        if r.stdout != open(folder + "/stdout", "rb").read():
-            return False, "error: the program prints something else"
+    return bool(verdicts) and verdicts[-1].startswith("logic=proved"), text
+
+
+def stored(path):
+    """The bytes of a file, none where it is not there."""
+    return open(path, "rb").read() if os.path.exists(path) else b""
+
+
+def ran(folder, *flags, given=b""):
+    """What `rt try` says of a program or of tests: compiled with checks, and the interpreter ends at its first step."""
+    r = subprocess.run([RT, "try", *flags, "--steps", "1", "--seconds", "600"], cwd=folder, capture_output=True, input=given)
+    if b"run=ended" not in r.stdout + r.stderr:
+        raise RuntimeError("%s: rt try gave no answer" % folder)
+    return r
+
+
+def prints_as_stored(folder):
+    """Whether the program in a folder prints its file stdout of its file stdin; a library prints nothing."""
+    if not os.path.exists(folder + "/src/main.rt"):
+        return True
+    return ran(folder, given=stored(folder + "/stdin")).stdout == stored(folder + "/stdout")
+
+
+def passes_its_tests(folder):
+    has_tests = any("#[test]" in open(file, encoding="utf-8").read() for file in glob.glob(folder + "/src/**/*.rt", recursive=True))
+    return not has_tests or ran(folder, "--test").returncode == 0
+
+
+def check(crate):
+    """Whether the crate is proved, prints what it must if it is a program, and passes its tests; and what was said."""
+    folder = "crates/" + crate
+    proved, text = prove(folder)
+    if proved and not prints_as_stored(folder):
+        return False, "error: the program prints something else"
+    if proved and not passes_its_tests(folder):
+        return False, "error: a test fails"
     return proved, text
 
 
