@@ -117,7 +117,13 @@ impl<S: System> Monitor<S> {
 fn lowest_enabled<S: System>(system: &S, state: u32, p: Permission) -> Option<u32>
     ensures { result ≡ lowest_enabled (meaning S.Walk S.System.own system.now) state p }
 {
-    (0..system.moves()).find(|mv| is_enabled_as(system, state, p, *mv))
+    // a `find` over the numbers takes several times as long
+    for mv in 0..system.moves() {
+        if is_enabled_as(system, state, p, mv) {
+            return Some(mv);
+        }
+    }
+    None
 }
 
 // Whether a move is enabled in a state and has that label.

@@ -1,5 +1,6 @@
 pub mod States
 pub mod Moves
+pub mod Entries
 pub mod Accepted
 pub mod Systems
 pub mod Numbers

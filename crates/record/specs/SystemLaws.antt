@@ -1,7 +1,7 @@
 -- A scheme record is within the bounds of walks and the counts of protection systems. Here and not in proofs/, since
 -- the implementation of the interface cites it.
 use Rattle.std.specs.Prelude.{◌≡◌, ℕ, zero, suc, ◌*◌, ◌/◌, ◌%◌, ◌^◌, ◌<◌, ◌≤◌, Bool, true, false, cond, List, [], ◌∷◌, length, Some, None, Option, nat_lt, slice_index_or, refl}
-use Rattle.std.proofs.Common.{ap, subst, ◌∙◌, mul_comm, mul-le-mul, zero-mul, arith}
+use Rattle.std.proofs.Common.{sym, ap, subst, ◌∙◌, mul_comm, mul-le-mul, zero-mul, arith}
 use Rattle.std.proofs.Math.Nat.{pow-zero, pow-le-pow_right}
 use Rattle.std.proofs.lemmas.Nat.{div_below, mod_below}
 use Rattle.std.proofs.lemmas.List.FromFn.{length-map-range_with_len}
@@ -20,6 +20,7 @@ use Rattle.scheme.specs.Counts.{state_count, move_count}
 use Rattle.scheme.specs.WellFormed.{rights_fit}
 use Rattle.record.specs.declared.record.Scheme.{Scheme}
 use Rattle.record.specs.Moves.{move_at}
+use Rattle.record.specs.Entries.{unpacked}
 use Rattle.record.specs.Systems.{object_count, no_policy, step_of, permission_of, label_of, walk_of, labels_of}
 use Rattle.record.specs.Schemes.{scheme_of}
 
@@ -49,7 +50,7 @@ states_few s =
     omega (arith, s.numbering.few)
 
 pub moves_counted : (s : Scheme) → length (items s.moves) ≡ move_count (scheme_of s)
-moves_counted s = ap length s.listed ∙ length-map-range_with_len (move_at (object_count (scheme_of s))) 0 (move_count (scheme_of s))
+moves_counted s = sym (length-map (items s.moves) unpacked) ∙ ap length s.listed ∙ length-map-range_with_len (move_at (object_count (scheme_of s))) 0 (move_count (scheme_of s))
 
 moves_few : (s : Scheme) → move_count (scheme_of s) ≤ 2048
 moves_few s = omega (arith, moves_counted s, length_items 2048 s.moves)

@@ -10,9 +10,10 @@ ghost use Rattle.codes.specs.Meanings.{sizes_in};
 ghost use Rattle.record.specs.States.{number};
 ghost use Rattle.record.specs.Numberings.{dimensions_of};
 ghost use Rattle.record.specs.Moves.{move_at};
+ghost use Rattle.record.specs.Entries.{unpacked};
 ghost use Rattle.record.specs.Systems.{object_count, start_state, Step};
 
-use crate::moves::Move;
+use crate::moves::table::Entry;
 use crate::numbering::Numbering;
 use bounded::Bounded;
 use scheme::draft::Draft;
@@ -22,12 +23,12 @@ pub struct Scheme {
     draft: Draft,
     numbering: Numbering,
     start: u32,
-    moves: Bounded<Move, 2048>,
+    moves: Bounded<Entry, 2048>,
     ghost formed: { well_formed (draft_of draft) ≡ true },
     ghost sized: { sizes_in numbering.codes ≡ sizes_of (draft_of draft) },
     ghost numbered: { (dimensions_of numbering).objects ≡ object_count (draft_of draft) },
     ghost started: { start ≡ number (sizes_of (draft_of draft)) (start_state (draft_of draft)) },
-    ghost listed: { items moves ≡ map (move_at (object_count (draft_of draft))) (range_with_len 0 (move_count (draft_of draft))) },
+    ghost listed: { map unpacked (items moves) ≡ map (move_at (object_count (draft_of draft))) (range_with_len 0 (move_count (draft_of draft))) },
     ghost begun: { start < state_count (draft_of draft) },
     ghost closed: { (s : Step (draft_of draft)) → s.to < state_count (draft_of draft) },
 }

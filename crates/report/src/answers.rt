@@ -9,7 +9,6 @@ ghost use Rattle.report.specs.Answers.{query_line, verdict_line, outcome_lines, 
 use crate::moves::put_moves;
 use crate::names::name_of;
 use crate::refusal::put_refusal;
-use crate::tables::Tables;
 use monitor::confirm;
 use protection::{Numbered, System, Verdict};
 use record::permission_asked;
@@ -18,7 +17,11 @@ use scheme::draft::Draft;
 use scheme::entries::Query;
 use scheme::kind::Kind;
 use std::alloc::AllocError;
+use walk::Found;
 use words::fault::Report;
+
+// The entries of each table of an analysis.
+pub(crate) const ENTRIES: usize = 4096;
 
 // A query, and the draft that has the names for its numbers.
 #[derive(Clone, Copy)]
@@ -93,19 +96,15 @@ impl Asked<'_> {
         self,
         out: &mut Vec<u8>,
         system: &S,
-        tables: &mut Tables,
+        marks: &mut [u32; ENTRIES],
+        found: &mut [Found; ENTRIES],
+        witness: &mut [u32; ENTRIES],
     ) -> Result<(), AllocError>
         ensures { Appended result out.old out.new (answer_lines (draft_of self.entry.draft.now) (meaning S.Walk S.System.own system.now) self.entry.query) }
     {
         let q = permission_asked(self.query);
-        match confirm(
-            system,
-            q,
-            &mut tables.marks,
-            &mut tables.found,
-            &mut tables.witness,
-        ) {
-            Ok(verdict) => self.put_evidence(out, verdict, &tables.witness),
+        match confirm(system, q, marks, found, witness) {
+            Ok(verdict) => self.put_evidence(out, verdict, witness),
             Err(refusal) => put_refusal(
                 out,
                 Report {

@@ -3,7 +3,6 @@
 // names    names by their numbers
 // moves    the lines that tell the moves of a witness
 // refusal  the line that tells a refusal
-// tables   the three tables of an analysis
 // answers  the lines that answer a query
 // whole    the lines of a whole report
 // output   what is printed of a text
@@ -14,7 +13,6 @@ mod moves;
 mod names;
 pub mod output;
 pub mod refusal;
-mod tables;
 pub mod whole;
 
 pub use output::annex;

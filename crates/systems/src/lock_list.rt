@@ -129,5 +129,6 @@ fn is_label_locked(locks: &[Permission], label: Option<Permission>) -> bool
 fn has_lock(locks: &[Permission], p: Permission) -> bool
     ensures { result ≡ is_listed locks.now p }
 {
-    locks.contains(&p)
+    // no `contains`, whose work for a short list is many times that of this
+    locks.iter().any(|lock| *lock == p)
 }

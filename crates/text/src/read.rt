@@ -22,10 +22,13 @@ fn read_lines(text: &[u8]) -> Result<Scheme, SchemeFault>
     ensures { map_ok scheme_of result ≡ read_lines 1 (text_lines text.now) start }
 {
     let mut reader = Reader::new();
+    // the number of the line after those that are read
+    let mut number = 1;
     for line in Lines::of(text) {
         reader.read_line(line)?;
+        number += 1;
     }
-    reader.finish(Lines::of(text).count() + 1)
+    reader.finish(number)
 }
 
 fn read_text(scheme: &mut Scheme, text: &[u8]) -> Result<(), SchemeFault>

@@ -1,5 +1,5 @@
 -- What is joined is cut where it was joined, and every text and every line is joined of something.
-use Rattle.std.proofs.Common.{◌≡◌, ◌≢◌, ℕ, zero, suc, ◌+◌, ◌<◌, Bool, true, false, cond, eqb, ◌⊎◌, inl, inr, List, [], ◌∷◌, ◌++◌, length, take, drop, replicate, Some, All, sym, refl, ap, ◌∙◌, subst, append_assoc, append-nil, add-zero, arith}
+use Rattle.std.proofs.Common.{◌≡◌, ◌≢◌, ℕ, zero, suc, ◌+◌, ◌<◌, ◌≤◌, Bool, true, false, cond, eqb, ◌⊎◌, inl, inr, List, [], ◌∷◌, ◌++◌, length, take, drop, replicate, Some, All, sym, refl, ap, ◌∙◌, subst, append_assoc, append-nil, add-zero, arith}
 use Rattle.std.specs.List.{slice_get}
 use Rattle.std.proofs.lemmas.Bool.{eq-eqb, ne_eqb, eqb-true, eqb-false}
 use Rattle.std.proofs.lemmas.List.{length-append, length-replicate}
@@ -7,6 +7,7 @@ use Rattle.std.proofs.lemmas.List.Elements.{All-nil, All-cons, All-head, All-tai
 use Rattle.std.proofs.lemmas.Option.{none-some, same_Some}
 use Rattle.words.specs.Positions.{PlainLine, PlainWord}
 use Rattle.words.specs.Cuts.{on_first, pieces, numbered, text_lines, placed, words_of}
+use Rattle.words.proofs.Pieces.{pieces_few}
 use Rattle.words.specs.Joining.{ended, Joined, with_rest, LinesAre, CutWhereJoined, SpacedWord, spaced, Spaced, WordsAre, CutWhereSpaced}
 
 -- bytes without a separator, and the pieces that they are
@@ -53,6 +54,10 @@ joined_pieces (l ∷ ls) rest whole end =
 numbered_length : (n : ℕ) (ls : List (List ℕ)) → length (numbered n ls) ≡ length ls
 numbered_length n [] = refl
 numbered_length n (l ∷ ls) = ap suc (numbered_length (n + 1) ls)
+
+-- a text has no more lines than bytes
+pub lines_few : (text : List ℕ) → length (text_lines text) ≤ length text
+lines_few text = omega (arith, numbered_length 1 (pieces 10 text), pieces_few 10 text)
 
 numbered_at : (n : ℕ) (ls : List (List ℕ)) (i : ℕ) (l : List ℕ) → slice_get ls i ≡ Some l → slice_get (numbered n ls) i ≡ Some (record { bytes = l; number = n + i })
 numbered_at n [] i l is = absurd (none-some l is)

@@ -114,3 +114,17 @@ module _ (n : ℕ) where
   on_its_line p ([] ∷ ps) i within = on_its_line (suc p) ps i within
   on_its_line p ((b ∷ w) ∷ ps) zero within = refl
   on_its_line p ((b ∷ w) ∷ ps) (suc i) within = on_its_line (p + suc (length (b ∷ w))) ps i (omega arith)
+
+-- there are no more pieces than bytes
+first_few : (b : ℕ) (ps : List (List ℕ)) → length (on_first b ps) ≤ 1 + length ps
+first_few b [] = omega arith
+first_few b (p ∷ ps) = omega arith
+
+on_few : (separator : ℕ) (t : Bool) (b : ℕ) (bs : List ℕ) → length (pieces separator bs) ≤ length bs
+    → length (cond t ([] ∷ pieces separator bs) (on_first b (pieces separator bs))) ≤ suc (length bs)
+on_few separator true b bs h = omega arith
+on_few separator false b bs h = omega (arith, first_few b (pieces separator bs))
+
+pub pieces_few : (separator : ℕ) (xs : List ℕ) → length (pieces separator xs) ≤ length xs
+pieces_few separator [] = omega arith
+pieces_few separator (b ∷ bs) = on_few separator (eqb b separator) b bs (pieces_few separator bs)

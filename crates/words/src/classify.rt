@@ -11,6 +11,9 @@ use scheme::terms::{Comparison, Party};
 
 const MAX_NAME: usize = 15;
 
+// The most digits that a number up to 255 has.
+const MAX_DIGITS: usize = 3;
+
 fn is_name_byte(b: u8) -> bool
     ensures { result ≡ name_byte b }
 {
@@ -29,13 +32,15 @@ fn is_name(word: &[u8]) -> bool
 }
 
 // The number that a word writes: 0 to 255 without leading zeros. `parse` takes leading zeros and a plus too:
-// the pattern keeps them out.
+// the pattern keeps them out. A longer word is not gone through.
 fn number_in(word: &[u8]) -> Option<u8>
     ensures { result ≡ number_in word.now }
 {
     match word {
         [b'0'] => Some(0),
-        [b'1'..=b'9', ..] => str::from_utf8(word).ok()?.parse().ok(),
+        [b'1'..=b'9', rest @ ..] if rest.len() < MAX_DIGITS => {
+            str::from_utf8(word).ok()?.parse().ok()
+        }
         _ => None,
     }
 }

@@ -77,8 +77,11 @@ impl Scheme {
         ensures value { option_map (λ (u : Use). u.mv) result ≡ move_of (scheme_of self.now) mv }
         ensures here { IfSome result (λ (u : Use). u.scheme.now ≡ self.now) }
     {
-        let mv = *self.moves.as_slice().get(mv as usize)?;
-        Some(Use { scheme: self, mv })
+        let entry = *self.moves.as_slice().get(mv as usize)?;
+        Some(Use {
+            scheme: self,
+            mv: entry.unpacked(),
+        })
     }
 
     fn next_state(&self, state: u32, mv: u32) -> Option<u32>

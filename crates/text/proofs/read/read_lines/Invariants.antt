@@ -12,4 +12,5 @@ invariant-loop-line l =
     × (goal.iterator-loop-line).is_finite l.line-iterator
     × (read_lines (1 + length l.yielded) (coming_lines l.line-iterator) (progress_of l.reader) ≡ read_lines 1 (text_lines l.text) start)
     × (length l.yielded + length (coming_lines l.line-iterator) ≡ length (text_lines l.text))
+    × (l.number ≡ 1 + length l.yielded)
     × Sound (progress_of l.reader)
