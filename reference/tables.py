@@ -162,12 +162,17 @@ class Monitor:
         return "no" if self.lowest(p) is None else "yes"
 
 
+def new_fill():
+    return {"table": None, "labels": [], "entries": []}
+
+
 def new_case():
-    return {"fills": [], "inner": [], "outer": [], "asked": []}
+    return {"fills": [new_fill()], "inner": [], "outer": [], "asked": []}
 
 
 def answer(lines):
-    """A line `table` begins numbers; where a case has more than one, they are handed in one after another."""
+    """The lines of a filling come in any order, and what none of them gives is empty or 0. Each line `table` but the
+    first begins another filling; a case with more than one hands them in one after another."""
     case = new_case()
     for line in lines:
         word, *rest = line.split()
@@ -176,7 +181,9 @@ def answer(lines):
             yield from answer_case(case)
             case = new_case()
         elif word == "table":
-            case["fills"].append({"table": numbers, "labels": [], "entries": []})
+            if case["fills"][-1]["table"] is not None:
+                case["fills"].append(new_fill())
+            case["fills"][-1]["table"] = numbers
         elif word in ("labels", "entries"):
             case["fills"][-1][word] = numbers
         elif word in ("inner", "outer"):
@@ -191,7 +198,7 @@ def answer_case(case):
     for i, given in enumerate(case["fills"]):
         if i > 0:
             yield from ask(System(table), case["asked"])
-        counts = (given["table"] + [0] * 5)[:5]
+        counts = ((given["table"] or []) + [0] * 5)[:5]
         offered = Table(*counts, given["labels"], given["entries"])
         refusal = table_refusal(offered)
         if refusal:
@@ -312,6 +319,10 @@ def more_fixed_cases():
     many = [(s, o, 0) for s in range(4) for o in range(4)]
     yield show_case([1, 1, 4, 1, 0], [3, 3, 0], [1], inner=many + [(4, 0, 0), (0, 4, 0), (0, 0, 1), (3, 3, 0), (0, 0, 0)],
                     outer=[(0, 0, 1)] + many[1:] + [(0, 0, 0), (2, 2, 0), (4, 4, 4)], asked=[("may", (3, 3, 0)), ("enforce", (0,))])
+    # labels and entries before the table, and no table at all
+    yield ["labels 0 1 0", "entries 2 0", "table 2 1 2 1 0", "query 0 1 0 2 2 2", "state", "end"]
+    yield ["query 0 0 0 1 1 1", "state", "end"]
+    yield ["end"]
 
 
 def damage(rng, labels, entries, states):

@@ -4,7 +4,8 @@ ghost use Rattle.std.specs.Prelude.{◌≡◌, slice_index};
 
 use anyhow::anyhow;
 use protection::Permission;
-use std::alloc::Global;
+use std::alloc::{AllocError, Global};
+use std::mem;
 use systems::Numbers;
 
 // An analysis, with tables of these lengths.
@@ -27,17 +28,19 @@ pub(crate) enum Question {
     Restart,
 }
 
-// The numbers of one filling.
+// The numbers of one filling: those of its lines `labels` and `entries`, which may stand before its line `table`,
+// and the counts that this line gives. What no line gives is empty, or 0.
 #[derive(Drop)]
 pub(crate) struct Filling {
-    counts: Vec<u32>,
+    counts: Option<Vec<u32>>,
     labels: Vec<u32>,
     entries: Vec<u32>,
 }
 
 #[derive(Drop)]
 pub(crate) struct Case {
-    pub(crate) fillings: Vec<Filling>,
+    pub(crate) earlier: Vec<Filling>,
+    pub(crate) last: Filling,
     pub(crate) inner: Vec<Permission>,
     pub(crate) outer: Vec<Permission>,
     pub(crate) questions: Vec<Question>,
@@ -83,8 +86,19 @@ fn asked(word: &str, numbers: &[u32]) -> Option<Question> {
 }
 
 impl Filling {
+    fn new(heap: Global) -> Self {
+        Filling {
+            counts: None,
+            labels: Vec::new(heap),
+            entries: Vec::new(heap),
+        }
+    }
+
     pub(crate) fn numbers(&self) -> Numbers<'_> {
-        let counts = self.counts.as_slice();
+        let counts: &[u32] = match &self.counts {
+            Some(counts) => counts.as_slice(),
+            None => &[],
+        };
         Numbers {
             states: number_at(counts, 0),
             moves: number_at(counts, 1),
@@ -100,18 +114,22 @@ impl Filling {
 impl Case {
     pub(crate) fn new(heap: Global) -> Self {
         Case {
-            fillings: Vec::new(heap),
+            earlier: Vec::new(heap),
+            last: Filling::new(heap),
             inner: Vec::new(heap),
             outer: Vec::new(heap),
             questions: Vec::new(heap),
         }
     }
 
-    // The filling that the last line `table` began.
-    fn last_filling(&mut self) -> anyhow::Result<&mut Filling> {
-        self.fillings
-            .last_mut()
-            .ok_or_else(|| anyhow!("labels or entries before any table"))
+    // The first line `table` gives its counts to the first filling, each one after it to a new one.
+    fn take_counts(&mut self, heap: Global, counts: Vec<u32>) -> Result<(), AllocError> {
+        if self.last.counts.is_some() {
+            let last = mem::replace(&mut self.last, Filling::new(heap));
+            self.earlier.push(last)?;
+        }
+        self.last.counts = Some(counts);
+        Ok(())
     }
 
     // Takes a line, by its first word and its numbers.
@@ -122,13 +140,9 @@ impl Case {
         numbers: Vec<u32>,
     ) -> anyhow::Result<()> {
         match word {
-            "table" => self.fillings.push(Filling {
-                counts: numbers,
-                labels: Vec::new(heap),
-                entries: Vec::new(heap),
-            })?,
-            "labels" => self.last_filling()?.labels = numbers,
-            "entries" => self.last_filling()?.entries = numbers,
+            "table" => self.take_counts(heap, numbers)?,
+            "labels" => self.last.labels = numbers,
+            "entries" => self.last.entries = numbers,
             "inner" => self.inner.push(permission(numbers.as_slice()))?,
             "outer" => self.outer.push(permission(numbers.as_slice()))?,
             _ => {

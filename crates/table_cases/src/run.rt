@@ -12,12 +12,11 @@ use walk::Found;
 // before that, too.
 pub(crate) fn run_case(rt: &HostRuntime, case: &Case) -> anyhow::Result<()> {
     let mut table = TableSystem::new();
-    for (i, filling) in case.fillings.as_slice().iter().enumerate() {
-        if i > 0 {
-            ask_all(rt, &table, case.questions.as_slice())?;
-        }
+    for filling in case.earlier.as_slice() {
         show_filled(rt, table.fill(filling.numbers()))?;
+        ask_all(rt, &table, case.questions.as_slice())?;
     }
+    show_filled(rt, table.fill(case.last.numbers()))?;
     let mut inner = LockList::new(table);
     lock_all(rt, &mut inner, case.inner.as_slice())?;
     let mut outer = LockList::new(inner);
