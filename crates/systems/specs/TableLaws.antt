@@ -1,9 +1,9 @@
 -- What accepted numbers of a table are: its walk is within the bounds, and its labels within the counts. Here and not in proofs/, since the implementation cites it.
-use Rattle.std.specs.Prelude.{◌≡◌, ℕ, zero, suc, ◌+◌, ◌*◌, ◌<◌, Bool, true, false, cond, not, ◌&&◌, length, is_some, Some, None, Option, nat_le, nat_lt, slice_index, refl}
+use Rattle.std.specs.Prelude.{◌≡◌, ℕ, zero, suc, ◌+◌, ◌*◌, ◌<◌, ◌≤◌, Bool, true, false, cond, not, ◌&&◌, length, is_some, Some, None, Option, nat_le, nat_lt, slice_index, refl}
 use Rattle.std.proofs.Common.{arith}
 use Rattle.std.specs.Option.{option_map, option_or}
 use Rattle.std.proofs.lemmas.Bool.{ltb-true, ltb-false, leb-true, leb-false, eqb-true, and_parts, not-false}
-use Rattle.std.proofs.lemmas.Nat.{mul-add-lt}
+use Rattle.std.proofs.lemmas.Nat.{mul-add-lt, mul-le}
 use Rattle.walk.specs.Walks.{Bounds}
 use Rattle.protection.specs.declared.permission.Permission.{Permission}
 use Rattle.protection.specs.Systems.{Counts}
@@ -64,6 +64,21 @@ place_in t ok s m hs hm =
     let a = accepted_parts t ok in
     let l = lengths_match t.states t.moves (length t.labels) (length t.entries) a.lengths in
     omega (arith, mul-add-lt s t.moves m t.states hs hm, l.entries_match)
+
+-- the entries of an accepted table are few: no more than the most states, each with the most moves
+pub place_fits : (t : Table) → accepts t ≡ true → length t.entries ≤ 1048576 * 4096
+place_fits t ok =
+    let a = accepted_parts t ok in
+    let l = lengths_match t.states t.moves (length t.labels) (length t.entries) a.lengths in
+    let b = count_bounds t.states t.moves t.objects t.rights a.counts in
+    omega (arith, mul-le t.states t.moves 1048576 4096 b.most_states b.most_moves, l.entries_match)
+
+-- the same of numbers that pass the tests of the counts and of the lengths alone
+pub entries_few : (n m o r ls es : ℕ) → counts_out n m o r ≡ false → lengths_out n m ls es ≡ false → es ≤ 1048576 * 4096
+entries_few n m o r ls es counts lengths =
+    let l = lengths_match n m ls es lengths in
+    let b = count_bounds n m o r counts in
+    omega (arith, mul-le n m 1048576 4096 b.most_states b.most_moves)
 
 -- the tests of a step
 step_tests : (t : Table) (s m u : ℕ) → table_step t s m ≡ Some u
