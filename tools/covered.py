@@ -41,12 +41,16 @@ def functions_of(path, source):
 
 
 def edits_of(crate):
-    """File and OLD of each pair of each must-fail edit."""
-    for name in sorted(glob.glob("crates/%s/must-fail/*.edit" % crate)):
+    return sorted(glob.glob("crates/%s/must-fail/*.edit" % crate))
+
+
+def places_of(edits):
+    """File and OLD of each pair of each of these must-fail edits."""
+    for name in edits:
         path = None
         for line in open(name, encoding="utf-8").read().splitlines():
             if line.startswith("file: "):
-                path = "crates/%s/%s" % (crate, line[len("file: "):])
+                path = "%s/%s" % (name.split("/must-fail/")[0], line[len("file: "):])
             elif line.startswith("old: "):
                 yield path, line[len("old: "):]
 
@@ -60,11 +64,12 @@ def look(crate):
                if not path.endswith("tests.rt")}
     functions = [f for path, source in sources.items() for f in functions_of(path, source)]
     bugs = list(plant.bugs_of(crate)) if os.path.exists(os.path.join(plant.LISTS, crate + ".txt")) else []
-    edits = list(edits_of(crate))
+    edits = edits_of(crate)
+    places = list(places_of(edits))
     for f in functions:
         source = sources[f.path]
         f.bugs = sum(path == f.path and is_bug and is_in(f, source, old) for path, old, _, is_bug in bugs)
-        f.edits = sum(path == f.path and is_in(f, source, old) for path, old in edits)
+        f.edits = sum(path == f.path and is_in(f, source, old) for path, old in places)
     print("%s: %d functions, %d bugs, %d must-fail edits" % (crate, len(functions), sum(b[3] for b in bugs), len(edits)))
     for f in functions:
         wants = []
