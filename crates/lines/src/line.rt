@@ -87,6 +87,10 @@ pub fn formed_line<'a>(
 ) -> Result<Option<Statement<'a>>, LineFault>
     ensures { result ≡ map_ok (option_map (stated line.entry)) (formed_line last attributes (line_of line.entry)) }
 {
+    // An empty line has no word and no fault: the checks below find the same, and take longer.
+    if line.bytes.is_empty() {
+        return Ok(None);
+    }
     check_line(line)?;
     let Some(kind) = line_kind(line, last)? else {
         return Ok(None);
